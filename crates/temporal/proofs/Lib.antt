@@ -1,0 +1,9 @@
+pub mod Shortening
+pub mod Rebuilding
+pub mod Meaning
+pub mod Proper
+pub mod Owed
+pub mod Lists
+pub mod Parts
+pub mod Order
+pub mod Examples
