@@ -6,4 +6,7 @@ pub mod Owed
 pub mod Lists
 pub mod Parts
 pub mod Order
+pub mod Places
+pub mod Shaping
+pub mod Interned
 pub mod Examples

@@ -6,7 +6,7 @@ use mathlib.Core.List.{List, [], _∷_}
 use Prim.Native.Nat.{ℕ, suc, _≤_, _<_}
 use native.Mathlib.Omega.{arith}
 use native.Mathlib.Decide.{decLe}
-use lib.Dec.{T, eqb, eqb-refl}
+use lib.Dec.{T, eqb}
 use Rattle.std.proofs.shelf.Ways.{tells}
 use Rattle.temporal.specs.Formula.{Op, Formula, Run, Both, Holds}
 use Rattle.temporal.specs.Formula.Op.{and, or}
@@ -234,7 +234,7 @@ recorded-begins : (xs : List (ℕ → Bool)) (t : ℕ) → Begins (recorded xs t
 unfolding recorded
 recorded-begins [] t = tt
 recorded-begins (x ∷ xs) t =
-    (λ p. simp (eqb-refl t), begins-same (recorded xs (suc t)) (recorded (x ∷ xs) t) (suc t) xs
+    (λ p. let y : eqb t t ≡ true = grind (arith, tells) in simp y, begins-same (recorded xs (suc t)) (recorded (x ∷ xs) t) (suc t) xs
     (λ u h p. let n : eqb u t ≡ false = grind (arith, tells) in simp n) (recorded-begins xs (suc t)))
 
 pub runs-abound : Runs-abound

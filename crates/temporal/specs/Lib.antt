@@ -5,3 +5,4 @@ pub mod Obligation
 pub mod Parts
 pub mod Laws
 pub mod Examples
+pub mod Places
