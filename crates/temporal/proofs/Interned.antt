@@ -58,3 +58,10 @@ module _ (ps : List Part) (s : Shape) (sound : Sound ps) where
           formula-is = ap (formula (ps ++ p ∷ [])) (sym l) ∙ push-new ps p ∙ w .formula-is;
         };
       }
+
+-- The formula that was asked for, where the shape was worked out on the slice of the parts in use.
+pub interned-as : (F : List Part → Formula) (n : ℕ) (xs ys qs : List Part) (s : Shape) (r : Option ℕ) → ys ≡ xs
+    → Shapes (take (n - 0) ys) (F (take (n - 0) ys)) s → Interned (take n xs) qs (meant (take n xs) s) r → Interned (take n xs) qs (F (take n xs)) r
+interned-as F n xs ys qs s r e h i =
+    let w : Shapes (take n xs) (F (take n xs)) s = subst (λ z. Shapes z (F z) s) (front n xs ys e) h in
+    subst (λ f. Interned (take n xs) qs f r) (meant-is (take n xs) (F (take n xs)) s w) i

@@ -6,3 +6,4 @@ pub mod Parts
 pub mod Laws
 pub mod Examples
 pub mod Places
+pub mod Tables

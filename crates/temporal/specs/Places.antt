@@ -4,6 +4,8 @@ use mathlib.Core.Bool.{Bool, true, false}
 use mathlib.Core.List.{List, [], _∷_, _++_}
 use mathlib.Core.Path.{_≡_}
 use lib.ListN.{length, getD, take}
+use Rattle.std.specs.Of.Vec.{vec-items}
+use Rattle.std.specs.declared.vec.Vec.{Vec}
 use Rattle.std.specs.declared.option.Option.{Option}
 use Rattle.std.specs.declared.option.Option.the-variants.{Some, None}
 use Rattle.temporal.specs.Formula.{Op, Formula}
@@ -79,6 +81,10 @@ reach (Open p s) = 0
 reach (One u a) = a + 1
 reach (Two b x y) = max x y + 1
 
+-- The parts in use: the first n of a table's memory.
+abbrev pub in-use : {Z : Type 0} → ℕ → Vec Part Z → List Part
+in-use n v = take n (vec-items v)
+
 -- A table's parts: operands stand before their users,
 abbrev pub Operands-first : List Part → Type 0
 Operands-first ps = (i : ℕ) → i < length ps → reach (getD ps i blank) ≤ i
@@ -136,3 +142,7 @@ pub record Made (n : ℕ) (ps qs : List Part) (f : Formula) (i : ℕ) : Type 0 w
 abbrev pub Interned : List Part → List Part → Formula → Option ℕ → Type 0
 Interned ps qs f (Some i) = Made 1 ps qs f i
 Interned ps qs f None = (qs ≡ ps) × (length ps ≡ 768) × ((k : ℕ) → k < length ps → formula ps k ≡ f → ⊥)
+
+-- The formula of a part without operands.
+abbrev pub leaf : Part → Formula
+leaf p = node (λ _. const false) p

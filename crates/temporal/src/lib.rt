@@ -6,6 +6,7 @@ mod search;
 mod shape;
 mod shapes;
 mod table;
+mod tables;
 
 pub use part::Binary;
 pub use part::Junction;
