@@ -12,7 +12,8 @@ use Rattle.temporal.specs.Places.{node, formula, blank, Sound, Grown, Stands, 
 use Rattle.temporal.specs.declared.shape.Shape.{Shape}
 use Rattle.temporal.specs.declared.shape.Shape.the-variants.{At, Is}
 use Rattle.temporal.specs.declared.part.Part.{Part}
-use Rattle.temporal.proofs.Places.{formula-node, formula-part, part-is, push-new, sound-push, grown-none, grown-push, grown-on}
+use Rattle.temporal.proofs.Places.{formula-node, formula-part, part-is, push-new, sound-push, grown-push}
+use Rattle.temporal.proofs.Passing.{made-here}
 
 -- The parts in use, as a slice has them.
 pub front : (n : ℕ) (xs ys : List Part) → ys ≡ xs → take (n - 0) ys ≡ take n xs
@@ -27,17 +28,13 @@ pub shape-is : (ps : List Part) (f : Formula) (s : Shape) → Shapes ps f s → 
 shape-is ps f s h = subst (λ g. Shapes ps g s) (sym (meant-is ps f s h)) h
 
 module _ (ps : List Part) (s : Shape) (sound : Sound ps) where
-  made-here : (n i : ℕ) → i < length ps → formula ps i ≡ meant ps s → Made n ps ps (meant ps s) i
-  made-here n i h e =
-      record { grown = grown-on 0 0 n ps ps ps (omega arith) (grown-none ps) (grown-none ps); sound = sound; stands = record { inside = h; formula-is = e } }
-
   pub interned-at : (i : ℕ) → s ≡ At i → Shapes ps (meant ps s) s → Made 1 ps ps (meant ps s) i
   interned-at i e h =
       let w : Stands ps (meant ps s) i = subst (Shapes ps (meant ps s)) e h in
-      made-here 1 i (w .inside) (w .formula-is)
+      made-here 1 ps (meant ps s) i sound (w .inside) (w .formula-is)
 
   pub interned-found : (p : Part) (i : ℕ) → s ≡ Is p → i < length ps → getD ps i blank ≡ p → Made 1 ps ps (meant ps s) i
-  interned-found p i e h q = made-here 1 i h (formula-part ps i (sound .ordered) h p q ∙ sym (ap (meant ps) e))
+  interned-found p i e h q = made-here 1 ps (meant ps s) i sound h (formula-part ps i (sound .ordered) h p q ∙ sym (ap (meant ps) e))
 
   pub interned-full : (p : Part) → s ≡ Is p → Shapes ps (meant ps s) s → length ps ≡ 768
       → ((k : ℕ) → k < length ps → getD ps k blank ≡ p → ⊥) → Interned ps ps (meant ps s) None

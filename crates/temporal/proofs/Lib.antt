@@ -9,4 +9,5 @@ pub mod Order
 pub mod Places
 pub mod Shaping
 pub mod Interned
+pub mod Passing
 pub mod Examples

@@ -7,3 +7,4 @@ pub mod Laws
 pub mod Examples
 pub mod Places
 pub mod Tables
+pub mod Readings

@@ -146,3 +146,18 @@ Interned ps qs f None = (qs ≡ ps) × (length ps ≡ 768) × ((k : ℕ) → k <
 -- The formula of a part without operands.
 abbrev pub leaf : Part → Formula
 leaf p = node (λ _. const false) p
+
+-- What a rewriting made of the first n parts: each image stands in the table.
+abbrev pub Imaged : (Formula → Formula) → List Part → List ℕ → ℕ → Type 0
+Imaged to ps images n = (k : ℕ) → k < n → Stands ps (to (formula ps k)) (getD images k 0)
+
+-- What a step makes of a sign: whole is the formula, x and y what its operands a and b became.
+abbrev pub stepped-one : Unary → Formula → Formula → Formula → Formula
+stepped-one Not whole a x = negˢ x
+stepped-one Next whole a x = a
+stepped-one Finally whole a x = joinˢ or x whole
+stepped-one Globally whole a x = joinˢ and x whole
+
+abbrev pub stepped-two : Binary → Formula → Formula → Formula → Formula
+stepped-two (Join o) whole x y = joinˢ (op o) x y
+stepped-two Until whole x y = joinˢ or y (joinˢ and x whole)

@@ -1,8 +1,9 @@
 //! Parts in a table's memory: its places, of which the first `used` are in use.
 ghost use Prim.Native.Nat.{_<_, _≤_};
 ghost use mathlib.Core.Path.{_≡_};
+ghost use lib.ListN.{getD};
 ghost use Rattle.std.specs.Of.Vec.{vec-len};
-ghost use Rattle.temporal.specs.Places.{in-use, Sound, Shapes, Interned, Made, meant, reach, leaf, formula, oneˢ, twoˢ};
+ghost use Rattle.temporal.specs.Places.{in-use, blank, Sound, Shapes, Interned, Made, meant, reach, leaf, formula, oneˢ, twoˢ};
 use crate::part::Binary;
 use crate::part::Part;
 use crate::part::Unary;
@@ -13,6 +14,15 @@ use crate::shapes::unary;
 
 /// How many parts may be in use.
 pub const ROOM: usize = 768;
+
+/// The part at a place in use.
+pub fn part_at(places: &Vec<Part>, used: usize, at: u16) -> Part
+    requires fits { ⌜ used ≤ vec-len (now places) ⌝ }
+    requires at { ⌜ at < used ⌝ }
+    ensures { λ r. ⌜ r ≡ getD (in-use used (now (places .entry))) at blank ⌝ }
+{
+    places[at as usize]
+}
 
 /// The place of a shape's formula, which is taken where it has none; `None` where there is no room for it.
 pub fn intern(places: &mut Vec<Part>, used: &mut usize, shape: Shape) -> Option<u16>

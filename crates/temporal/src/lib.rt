@@ -2,6 +2,8 @@
 pub mod laws;
 mod part;
 mod interning;
+mod reading;
+mod rewrite;
 mod search;
 mod shape;
 mod shapes;
@@ -12,4 +14,8 @@ pub use part::Binary;
 pub use part::Junction;
 pub use part::Part;
 pub use part::Unary;
+pub use reading::Known;
+pub use reading::Reading;
+pub use reading::Row;
+pub use reading::RowKnown;
 pub use table::Table;

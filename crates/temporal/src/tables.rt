@@ -9,6 +9,7 @@ ghost use Rattle.temporal.specs.Places.{Interned, blank, formula, oneˢ, twoˢ
 ghost use Rattle.temporal.specs.Tables.{parts-of};
 use crate::interning::ROOM;
 use crate::interning::intern;
+use crate::interning::part_at;
 use crate::part::Binary;
 use crate::part::Part;
 use crate::part::Unary;
@@ -39,7 +40,7 @@ impl Table {
         requires { ⌜ at < length (parts-of (now self)) ⌝ }
         ensures { λ r. ⌜ r ≡ getD (parts-of (now (self .entry))) at blank ⌝ }
     {
-        self.places[at as usize]
+        part_at(&self.places, self.used, at)
     }
 
     /// The place of a constant; `None` where there is no room for it.
