@@ -2,6 +2,7 @@
 pub mod laws;
 mod part;
 mod interning;
+mod pass;
 mod reading;
 mod rewrite;
 mod search;

@@ -94,3 +94,31 @@ pub impl Rewrite for Row<'_> as RowStep {
         }
     }
 }
+
+/// Closing open readings by what is known.
+pub struct Closing<'a, K> {
+    pub known: &'a K,
+}
+
+pub impl<K: Known> Rewrite for Closing<'_, K> as ClosingRewrite {
+    ghost to = { λ s f. close (closed-by (K·Known .known (behind (s .known)))) f };
+
+    fn image(&self, places: &mut Vec<Part>, used: &mut usize, at: u16, images: &[u16]) -> u16 {
+        match part_at(places, *used, at) {
+            Part::Const(_) => at,
+            Part::Signal(_) => at,
+            Part::Open(p, tick) => match self.known.look_up(p, tick) {
+                Some(value) => put_leaf(places, used, Part::Const(value)),
+                None => at,
+            },
+            Part::One(sign, a) => match sign {
+                Unary::Not => put_unary(places, used, Unary::Not, images[a as usize]),
+                _ => at,
+            },
+            Part::Two(sign, a, b) => match sign {
+                Binary::Join(_) => put_binary(places, used, sign, images[a as usize], images[b as usize]),
+                Binary::Until => at,
+            },
+        }
+    }
+}
