@@ -10,4 +10,5 @@ pub mod Places
 pub mod Shaping
 pub mod Interned
 pub mod Passing
+pub mod Numbers
 pub mod Examples

@@ -256,19 +256,20 @@ short-is f e = same-true (shorten f) f e
 pub is-short : (f : Formula) → Shortened f → short f ≡ true
 is-short f e = rw e (same-refl f)
 
+-- A part may be written where its operands are.
+pub ordered-push : (ps : List Part) (q : Part) → Operands-first ps → reach q ≤ length ps → Operands-first (ps ++ q ∷ [])
+ordered-push ps q o b i h =
+    let l = length-push ps q in
+    let P : ℕ → Type 0 = λ k. reach (getD (ps ++ q ∷ []) k blank) ≤ k in
+    below-more P (length ps)
+    (λ k lt. subst (λ z. reach z ≤ k) (sym (getD-append-left ps (q ∷ []) blank k lt)) (o k lt))
+    (subst (λ z. reach z ≤ length ps) (sym (getD-push ps q blank (length ps) refl)) b)
+    i (omega arith)
+
 -- A part that no place holds may be written behind the others.
 pub sound-push : (ps : List Part) (f : Formula) (q : Part) → Sound ps → Fits ps f q → ((k : ℕ) → k < length ps → getD ps k blank ≡ q → ⊥) → Sound (ps ++ q ∷ [])
-sound-push ps f q s w absent = record { ordered = first; once = twice; short = all }
+sound-push ps f q s w absent = record { ordered = ordered-push ps q (s .ordered) (w .below); once = twice; short = all }
   where
-    first : Operands-first (ps ++ q ∷ [])
-    first i h =
-        let l = length-push ps q in
-        let P : ℕ → Type 0 = λ k. reach (getD (ps ++ q ∷ []) k blank) ≤ k in
-        below-more P (length ps)
-        (λ k lt. subst (λ z. reach z ≤ k) (sym (getD-append-left ps (q ∷ []) blank k lt)) (s .ordered k lt))
-        (subst (λ z. reach z ≤ length ps) (sym (getD-push ps q blank (length ps) refl)) (w .below))
-        i (omega arith)
-
     twice : None-twice (ps ++ q ∷ [])
     twice i j h e = go (decLt j (length ps))
       where

@@ -11,7 +11,7 @@ use Rattle.temporal.specs.Formula.Formula.{const, reading, neg, join, finally,
 use Rattle.temporal.specs.Shorten.{negˢ, joinˢ, shorten}
 use Rattle.temporal.specs.Progress.{step, close, Closes, through}
 use Rattle.temporal.specs.Obligation.{Open, Closed, Clear, Shortened, Obligation, Proper}
-use Rattle.temporal.specs.Parts.{In, Distinct, Part, parts, visit, Ordered, made}
+use Rattle.temporal.specs.Parts.{In, Distinct, Part, parts, Ordered, made}
 
 -- h rebuilds a formula: it keeps the constants, and shortens what it makes of not, and, or.
 pub record Rebuilds (h : Formula → Formula) : Type 0 where
@@ -104,7 +104,7 @@ Parts-listed = (f : Formula) → Distinct (parts f) × ((g : Formula) → In g (
 -- The walk ends with the formula, and every part stands before what it is a part of.
 abbrev pub Parts-in-order : Type 0
 Parts-in-order =
-    (f : Formula) → Ordered (parts f) × ((xs : List Formula) × (parts f ≡ xs ++ (f ∷ []))) × (visit f [] ≡ parts f)
+    (f : Formula) → Ordered (parts f) × ((xs : List Formula) × (parts f ≡ xs ++ (f ∷ [])))
 
 abbrev pub Closing-adds-no-part : Type 0
 Closing-adds-no-part =

@@ -8,3 +8,4 @@ pub mod Examples
 pub mod Places
 pub mod Tables
 pub mod Readings
+pub mod Numbered

@@ -108,7 +108,7 @@ pub fn parts_listed() -> u8
     0
 }
 
-/// Each part stands before what it is a part of, the formula last; a walk that enters no listed part is the same.
+/// Each part stands before what it is a part of, the formula last.
 pub fn parts_in_order() -> u8
     ensures { λ _. ⌜ Parts-in-order ⌝ }
 {

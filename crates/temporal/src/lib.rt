@@ -1,5 +1,6 @@
 //! Linear-time formulas: their meaning on endless runs, shortening, progression, and a table that computes them.
 pub mod laws;
+mod numbering;
 mod part;
 mod interning;
 mod pass;
