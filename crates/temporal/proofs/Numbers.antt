@@ -1,7 +1,7 @@
 -- The laws of numbering.
 use Prim.Native.Nat.{ℕ, zero, suc, _+_, _<_, _≤_, max}
 use mathlib.Core.Path.{_≡_, refl, sym, ap, ap₂, subst, _∙_}
-use mathlib.Core.Bool.{false}
+use mathlib.Core.Bool.{true}
 use mathlib.Core.List.{List, [], _∷_, _++_}
 use mathlib.Core.Logic.{_⊎_, inl, inr, _≢_}
 use native.Mathlib.Omega.{arith}
@@ -12,7 +12,7 @@ use Rattle.temporal.specs.Formula.{Formula}
 use Rattle.temporal.specs.Formula.Op.{and, or}
 use Rattle.temporal.specs.Formula.Formula.{const, signal, reading, neg, join, next, finally, globally, until}
 use Rattle.temporal.specs.Parts.{In, Distinct, Part as PartOf, Whole, walk, parts}
-use Rattle.temporal.specs.Places.{op, one, two, node, place, formula, formulas, blank, reach, leaf, Sound, Operands-first, Grown, Stands}
+use Rattle.temporal.specs.Places.{one, two, node, place, formula, formulas, blank, reach, short, Sound, Operands-first, Grown, Stands}
 use Rattle.temporal.specs.Numbered.{Numbered}
 use Rattle.temporal.specs.declared.part.Unary.{Unary}
 use Rattle.temporal.specs.declared.part.Unary.the-variants.{Not, Next, Finally, Globally}
@@ -246,3 +246,45 @@ module _ (ps : List Part) (s : Sound ps) (i : ℕ) (h : i < length ps) (xs : Lis
   pub new-leaf : (qs : List Part) → reach (getD ps i blank) ≡ 0 → (reach (getD ps i blank) ≤ length qs) × (node (formula qs) (getD ps i blank) ≡ formula ps i)
   new-leaf qs r =
       (omega arith, node-same (formula qs) (formula ps) 0 (λ k l. absurd (omega arith)) (getD ps i blank) (omega arith) ∙ sym (formula-node ps i (s .ordered) h))
+
+-- Nothing is written yet.
+pub none-yet : (ps : List Part) (ns : List ℕ) → length ps ≤ length ns → ((k : ℕ) → k < length ns → getD ns k 0 ≡ 65535) → Numbered ps ns []
+unfolding formulas
+none-yet ps ns l all = record {
+  long = l;
+  ordered = λ i h. absurd (omega arith);
+  distinct = tt;
+  whole = λ g x k. absurd k;
+  within = λ g k. absurd k;
+  number = λ k h some. absurd (some (all k (omega arith)));
+  none = λ k h e j. j;
+}
+
+-- What is written is a sound table again.
+found-at : (f : Formula) (fs : List Formula) → In f fs → (k : ℕ) × (k < length fs) × (place fs k ≡ f)
+found-at f [] k = absurd k
+found-at f (x ∷ fs) (inl e) = (0, omega arith, sym e)
+found-at f (x ∷ fs) (inr j) = let w = found-at f fs j in (suc (w .0), (let h = w .1 in omega arith), w .2)
+
+distinct-at : (fs : List Formula) → Distinct fs → (i j : ℕ) → (i < j) × (j < length fs) → place fs i ≡ place fs j → ⊥
+distinct-at [] d i j h e = omega (arith, h .1)
+distinct-at (f ∷ fs) d zero zero h e = omega (arith, h .0)
+distinct-at (f ∷ fs) d zero (suc j) h e =
+    let l : j < length fs = omega (arith, h .1) in d .0 (in-same f (place fs j) fs e (in-at fs j l))
+distinct-at (f ∷ fs) d (suc i) zero h e = omega (arith, h .0)
+distinct-at (f ∷ fs) d (suc i) (suc j) h e = distinct-at fs (d .1) i j (omega (arith, h .0), omega (arith, h .1)) e
+
+pub numbered-sound : (ps : List Part) (ns : List ℕ) (qs : List Part) → Sound ps → Numbered ps ns qs → Sound qs
+numbered-sound ps ns qs s n = record {
+  ordered = n .ordered;
+  once = λ i j h e. distinct-at (formulas qs) (n .distinct) i j (h .0, (let l = formulas-length qs in omega (arith, h .1))) e;
+  short = λ i h.
+    let l = formulas-length qs in
+    let m = formulas-length ps in
+    let w = found-at (formula qs i) (formulas ps) (n .within (formula qs i) (in-at (formulas qs) i (omega arith))) in
+    subst (λ f. short f ≡ true) (w .2) (s .short (w .0) (let k = w .1 in omega arith));
+}
+
+pub nothing : formulas [] ≡ []
+unfolding formulas
+nothing = refl

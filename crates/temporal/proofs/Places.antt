@@ -320,3 +320,22 @@ stands-on n ps qs f i g s =
     let a = g .more in
     let b = s .inside in
     record { inside = omega arith; formula-is = formula-front ps qs i (g .front) (s .inside) ∙ s .formula-is }
+
+-- The first parts of a sound table are one.
+pub sound-take : (ps : List Part) (n : ℕ) → n ≤ length ps → Sound ps → Sound (take n ps)
+sound-take ps n h s = record {
+  ordered = λ i l. subst (λ p. reach p ≤ i) (sym (getD-take n ps i blank (low i l))) (s .ordered i (in-front i l));
+  once = λ i j w e.
+    let l : i < length (take n ps) = omega (arith, w .0, w .1) in
+    s .once i j (w .0, in-front j (w .1)) (same-at i l ∙ e ∙ sym (same-at j (w .1)));
+  short = λ i l. subst (λ f. short f ≡ true) (same-at i l) (s .short i (in-front i l));
+}
+  where
+    low : (i : ℕ) → i < length (take n ps) → i < n
+    low i l = omega (arith, length-take-le n ps h)
+
+    in-front : (i : ℕ) → i < length (take n ps) → i < length ps
+    in-front i l = omega (arith, length-take-le n ps h)
+
+    same-at : (i : ℕ) → i < length (take n ps) → formula ps i ≡ formula (take n ps) i
+    same-at i l = formula-front (take n ps) ps i (ap (λ k. take k ps) (length-take-le n ps h)) l

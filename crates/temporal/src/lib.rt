@@ -11,6 +11,8 @@ mod shape;
 mod shapes;
 mod table;
 mod tables;
+mod workspace;
+mod workspaces;
 
 pub use part::Binary;
 pub use part::Junction;
@@ -21,3 +23,4 @@ pub use reading::Reading;
 pub use reading::Row;
 pub use reading::RowKnown;
 pub use table::Table;
+pub use workspace::Workspace;

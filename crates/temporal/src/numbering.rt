@@ -1,8 +1,8 @@
 //! The walk that numbers the parts of a formula.
-ghost use Prim.Native.Nat.{_+_, _<_, _≤_};
+ghost use Prim.Native.Nat.{ℕ, _+_, _<_, _≤_};
 ghost use mathlib.Core.Path.{_≡_};
 ghost use mathlib.Core.List.{[], _∷_, _++_};
-ghost use lib.ListN.{length, set};
+ghost use lib.ListN.{length, getD, set};
 ghost use Rattle.std.specs.Of.Vec.{vec-len};
 ghost use Rattle.temporal.specs.Parts.{walk as walked};
 ghost use Rattle.temporal.specs.Places.{in-use, formula, formulas, Sound, Stands, Grown};
@@ -61,5 +61,14 @@ pub fn walk(parts: &[Part], at: u16, numbers: &mut [u16], out: &mut Vec<Part>, c
             write(at, Part::Two(sign, x, y), numbers, out, count)
         }
         leaf => write(at, leaf, numbers, out, count),
+    }
+}
+
+/// Takes all numbers back.
+pub fn forget(numbers: &mut [u16])
+    ensures { λ _. ⌜ ((k : ℕ) → k < length (now (numbers .exit)) → getD (now (numbers .exit)) k 0 ≡ 65535) ⌝ }
+{
+    for number in numbers.iter_mut() {
+        *number = NONE;
     }
 }

@@ -1,18 +1,24 @@
 //! What a table does.
-ghost use Prim.Native.Nat.{_<_};
+ghost use Prim.Native.Nat.{_*_, _<_, _≤_};
 ghost use mathlib.Core.Path.{_≡_};
 ghost use mathlib.Core.List.{[]};
-ghost use lib.ListN.{length, getD};
+ghost use lib.ListN.{length, getD, take};
+ghost use Rattle.std.specs.Of.Vec.{vec-len};
 ghost use Rattle.std.specs.Vec.{made};
 ghost use Rattle.temporal.specs.Formula.Formula.{const, signal as signalOf, reading};
-ghost use Rattle.temporal.specs.Places.{Interned, blank, formula, oneˢ, twoˢ};
+ghost use Rattle.temporal.specs.Parts.{parts};
+ghost use Rattle.temporal.specs.Places.{in-use, Interned, Imaged, Grown, Sound, blank, formula, formulas, oneˢ, twoˢ};
 ghost use Rattle.temporal.specs.Tables.{parts-of};
 use crate::interning::ROOM;
 use crate::interning::intern;
 use crate::interning::part_at;
+use crate::numbering::forget;
+use crate::numbering::walk;
 use crate::part::Binary;
 use crate::part::Part;
 use crate::part::Unary;
+use crate::pass::pass;
+use crate::rewrite::Rewrite;
 use crate::shape::Shape;
 use crate::shapes;
 use crate::table::Table;
@@ -81,5 +87,53 @@ impl Table {
     {
         let shape = shapes::binary(&self.places[0..self.used], sign, x, y);
         intern(&mut self.places, &mut self.used, shape)
+    }
+}
+
+impl Table {
+    /// Rewrites every part in use; `images` then has the place of what became of each. There is room for it.
+    pub(crate) fn rewrite<R: Rewrite>(&mut self, by: &R, images: &mut [u16])
+        requires few { ⌜ length (parts-of (now self)) ≤ 256 ⌝ }
+        requires images { ⌜ length (parts-of (now self)) ≤ length (now images) ⌝ }
+        ensures grown { λ _. ⌜ Grown (2 * length (parts-of (now (self .entry)))) (parts-of (now (self .entry))) (parts-of (now (self .exit))) ⌝ }
+        ensures imaged { λ _. ⌜ Imaged (to (now (by .entry))) (parts-of (now (self .exit))) (now (images .exit)) (length (parts-of (now (self .entry)))) ⌝ }
+    {
+        pass(&mut self.places, &mut self.used, by, images)
+    }
+
+    /// Back to the first `n` parts.
+    pub(crate) fn cut(&mut self, n: usize)
+        requires { ⌜ n ≤ length (parts-of (now self)) ⌝ }
+        ensures { λ _. ⌜ parts-of (now (self .exit)) ≡ take n (parts-of (now (self .entry))) ⌝ }
+    {
+        self.used = n;
+    }
+
+    /// Takes the first `count` parts of `out` for its own.
+    pub(crate) fn adopt(&mut self, out: &mut Vec<Part>, count: usize)
+        requires long { ⌜ vec-len (now out) ≡ 769 ⌝ }
+        requires count { ⌜ count ≤ 768 ⌝ }
+        requires sound { ⌜ Sound (in-use count (now out)) ⌝ }
+        ensures long { λ _. ⌜ vec-len (now (out .exit)) ≡ 769 ⌝ }
+        ensures parts { λ _. ⌜ parts-of (now (self .exit)) ≡ in-use count (now (out .entry)) ⌝ }
+    {
+        std::mem::swap(&mut self.places, out);
+        self.used = count;
+    }
+
+    /// Writes the parts of the formula at `top` in the walk's order; answers how many there are.
+    pub(crate) fn number(&self, top: u16, numbers: &mut [u16], out: &mut Vec<Part>) -> usize
+        requires top { ⌜ top < length (parts-of (now self)) ⌝ }
+        requires numbers { ⌜ length (now numbers) ≡ 768 ⌝ }
+        requires long { ⌜ vec-len (now out) ≡ 769 ⌝ }
+        ensures long { λ _. ⌜ vec-len (now (out .exit)) ≡ 769 ⌝ }
+        ensures few { λ r. ⌜ r ≤ 768 ⌝ }
+        ensures sound { λ r. ⌜ Sound (in-use r (now (out .exit))) ⌝ }
+        ensures walked { λ r. ⌜ formulas (in-use r (now (out .exit))) ≡ parts (formula (parts-of (now (self .entry))) top) ⌝ }
+    {
+        forget(numbers);
+        let mut count = 0;
+        walk(&self.places[0..self.used], top, numbers, out, &mut count);
+        count
     }
 }
