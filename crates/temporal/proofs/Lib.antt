@@ -11,4 +11,6 @@ pub mod Shaping
 pub mod Interned
 pub mod Passing
 pub mod Numbers
+pub mod Firsts
+pub mod Compacting
 pub mod Examples

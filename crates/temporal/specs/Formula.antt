@@ -1,5 +1,5 @@
 -- A formula, and what it means on an endless run.
-use mathlib.Core.Bool.{Bool}
+use mathlib.Core.Bool.{Bool, false}
 use mathlib.Core.Logic.{_⊎_}
 use Prim.Native.Nat.{ℕ, suc, _≤_, _<_}
 use lib.Dec.{T}
@@ -19,6 +19,10 @@ pub data Formula : Type 0 where
   next finally globally : Formula → Formula
   until : Formula → Formula → Formula
   deriving Discrete as Formula-discrete
+
+-- The formula `false`.
+abbrev pub never : Formula
+never = const false
 
 -- An endless run: which signals are on, by tick, then by signal.
 abbrev pub Run : Type 0

@@ -9,3 +9,5 @@ pub mod Places
 pub mod Tables
 pub mod Readings
 pub mod Numbered
+pub mod Earliest
+pub mod Compacts

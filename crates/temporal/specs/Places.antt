@@ -12,6 +12,7 @@ use Rattle.temporal.specs.Formula.{Op, Formula}
 use Rattle.temporal.specs.Formula.Op.{and, or}
 use Rattle.temporal.specs.Formula.Formula.{const, signal, reading, neg, join, next, finally, globally, until}
 use Rattle.temporal.specs.Shorten.{same, shorten, negˢ, joinˢ, nextˢ, finallyˢ, globallyˢ, untilˢ}
+use Rattle.temporal.specs.Earliest.{earliest}
 use Rattle.temporal.specs.declared.part.Unary.{Unary}
 use Rattle.temporal.specs.declared.part.Unary.the-variants.{Not, Next, Finally, Globally}
 use Rattle.temporal.specs.declared.part.Binary.{Binary}
@@ -161,3 +162,7 @@ stepped-one Globally whole a x = joinˢ and x whole
 abbrev pub stepped-two : Binary → Formula → Formula → Formula → Formula
 stepped-two (Join o) whole x y = joinˢ (op o) x y
 stepped-two Until whole x y = joinˢ or y (joinˢ and x whole)
+
+-- The earliest open ticks of the first n parts.
+abbrev pub Ticked : List Part → List (Option ℕ) → ℕ → Type 0
+Ticked ps ticks n = (k : ℕ) → k < n → getD ticks k None ≡ earliest (formula ps k)

@@ -15,6 +15,7 @@ ghost use Rattle.temporal.specs.Laws.{Parts-listed};
 ghost use Rattle.temporal.specs.Laws.{Parts-in-order};
 ghost use Rattle.temporal.specs.Laws.{Closing-adds-no-part};
 ghost use Rattle.temporal.specs.Laws.{Step-makes-two};
+ghost use Rattle.temporal.specs.Earliest.{Earliest-is-first};
 ghost use Rattle.temporal.specs.Examples.{Worked-examples};
 
 /// What keeps constants and rebuilds not, and, or with the shortening constructors commutes with those constructors.
@@ -125,6 +126,13 @@ pub fn closing_adds_no_part() -> u8
 /// A step makes at most two new parts for each.
 pub fn step_makes_two() -> u8
     ensures { λ _. ⌜ Step-makes-two ⌝ }
+{
+    0
+}
+
+/// The earliest open tick is open, and none is earlier; without one nothing is open.
+pub fn earliest_is_first() -> u8
+    ensures { λ _. ⌜ Earliest-is-first ⌝ }
 {
     0
 }

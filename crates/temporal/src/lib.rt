@@ -2,6 +2,9 @@
 pub mod laws;
 mod numbering;
 mod part;
+mod compact;
+mod compacts;
+mod earliest;
 mod interning;
 mod pass;
 mod reading;
@@ -14,6 +17,9 @@ mod tables;
 mod workspace;
 mod workspaces;
 
+pub use compact::Compact;
+pub use compacts::MOST;
+pub use compacts::TooMany;
 pub use part::Binary;
 pub use part::Junction;
 pub use part::Part;
