@@ -1,18 +1,20 @@
 -- The laws of a formula in memory of its own.
-use Prim.Native.Nat.{ℕ, zero, suc, _+_, _-_, _<_, _≤_}
+use Prim.Native.Nat.{ℕ, zero, suc, _+_, _*_, _-_, _<_, _≤_}
 use mathlib.Core.Path.{_≡_, refl, sym, ap, ap₂, subst, _∙_}
 use mathlib.Core.Bool.{Bool, true, false, cond, false≢true}
 use mathlib.Core.List.{List, [], _∷_, _++_}
 use native.Mathlib.Omega.{arith}
-use lib.ListN.{length, getD}
-use Rattle.std.proofs.shelf.Lists.{length-push}
+use lib.ListN.{length, getD, take, drop}
+use Rattle.std.specs.Of.Vec.{vec-items}
+use Rattle.std.specs.declared.vec.Vec.{Vec}
+use Rattle.std.proofs.shelf.Lists.{length-push, getD-read, refilled-is}
 use Rattle.std.specs.declared.option.Option.{Option}
 use Rattle.std.specs.declared.option.Option.the-variants.{Some, None}
 use Rattle.temporal.specs.Formula.{Formula}
 use Rattle.temporal.specs.Formula.Formula.{const}
 use Rattle.temporal.specs.Shorten.{same}
 use Rattle.temporal.specs.Parts.{parts, final, alike}
-use Rattle.temporal.specs.Places.{one, two, node, place, formula, formulas, blank, Operands-first, Sound, Made, Interned}
+use Rattle.temporal.specs.Places.{one, two, node, place, formula, formulas, blank, Grown, Stands, Imaged, Interned}
 use Rattle.temporal.specs.Compacts.{compact-parts, formula-of, constant}
 use Rattle.temporal.specs.declared.compact.Compact.{Compact}
 use Rattle.temporal.specs.declared.part.Unary.{Unary}
@@ -23,7 +25,7 @@ use Rattle.temporal.specs.declared.part.Part.{Part}
 use Rattle.temporal.specs.declared.part.Part.the-variants.{Const, Signal, Open, One, Two}
 use Rattle.temporal.proofs.Shortening.{same-true, same-refl}
 use Rattle.temporal.proofs.Order.{parts-end, finish-new}
-use Rattle.temporal.proofs.Places.{formulas-length, formula-part, formula-node}
+use Rattle.temporal.proofs.Places.{formulas-length, formula-front, formula-part, formula-node}
 
 pub alike-true : (xs ys : List Formula) → alike xs ys ≡ true → xs ≡ ys
 alike-true [] [] e = refl
@@ -127,3 +129,31 @@ fresh-walked b ps qs (Some i) e d =
       single (formulas qs) (const b) i (omega arith) (omega arith) (d .stands .formula-is) ∙ sym (finish-new (const b) [] (λ z. z)),
       omega arith,
     )
+
+-- What is read of a Vec that was lent as a slice and came back as ws.
+pub read-back : {X Z : Type 0} (v : Vec X Z) (ws us : List X) (k : ℕ) (x d : X) → length ws ≡ length us → us ≡ vec-items v → k < v .len
+    → x ≡ getD (take (v .len) (ws ++ drop (length ws) (v .items))) k x → x ≡ getD ws k d
+read-back v ws us k x d l e h q =
+    let m : length ws ≡ v .len = l ∙ ap length e ∙ sym (v .ok .0) in
+    getD-read ws k x (omega arith) (q ∙ ap (λ z. getD z k x) (refilled-is v ws m)) d
+
+-- A rewriting of every part, and the walk of what became of the formula.
+module _ (c : Compact) (to : Formula → Formula) (n : ℕ) (e : n ≡ length (compact-parts c)) (qs : List Part) (images : List ℕ)
+    (grown : Grown (2 * length (compact-parts c)) (compact-parts c) qs) (done : Imaged to qs images (length (compact-parts c)))
+    (top : ℕ) (at : top ≡ getD images (n - 1) 0) where
+  pub top-stands : Stands qs (to (formula-of c)) top
+  top-stands =
+      let h = c .some in
+      let l : n - 1 < length (compact-parts c) = omega arith in
+      subst (Stands qs (to (formula-of c))) (sym at)
+      (subst (λ f. Stands qs (to f) (getD images (n - 1) 0)) (formula-front (compact-parts c) qs (n - 1) (grown .front) l ∙ top-formula c n e) (done (n - 1) l))
+
+  pub top-walked : (rs : List Part) → formulas rs ≡ parts (formula qs top) → formulas rs ≡ parts (to (formula-of c))
+  top-walked rs w = w ∙ ap parts (top-stands .formula-is)
+
+-- What the table is once it has adopted what was written.
+pub adopted : (f : Formula) (ps qs : List Part) (r : ℕ) → formulas qs ≡ parts f → ps ≡ qs → length qs ≡ r → r ≤ 256
+    → (0 < length ps) × (length ps ≤ 256) × (alike (formulas ps) (parts (final (formulas ps))) ≡ true) × (final (formulas ps) ≡ f)
+adopted f ps qs r w e l h =
+    let a = walked-alike ps f (ap formulas e ∙ w) in
+    (a .0, omega (arith, ap length e), a .2, a .1)

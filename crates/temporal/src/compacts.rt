@@ -6,11 +6,20 @@ ghost use Rattle.std.specs.Vec.{made};
 ghost use Rattle.temporal.specs.Formula.{never};
 ghost use Rattle.temporal.specs.Parts.{parts};
 ghost use Rattle.temporal.specs.Places.{blank, formula};
+ghost use Rattle.temporal.specs.Progress.{step, close};
+ghost use Rattle.temporal.specs.Readings.{assigned, closed-by};
+ghost use Rattle.temporal.specs.Earliest.{earliest};
 ghost use Rattle.temporal.specs.Tables.{parts-of};
 ghost use Rattle.temporal.specs.Compacts.{Became, compact-parts, constant, formula-of};
 use crate::compact::Compact;
 use crate::part::Part;
+use crate::earliest::earliest_ticks;
+use crate::reading::Known;
+use crate::reading::Row;
+use crate::rewrite::Closing;
+use crate::rewrite::ClosingRewrite;
 use crate::rewrite::Rewrite;
+use crate::rewrite::RowStep;
 use crate::table::Table;
 use crate::workspace::Workspace;
 use std::alloc::AllocError;
@@ -57,5 +66,59 @@ impl Compact {
             Part::Const(value) => Some(value),
             _ => None,
         }
+    }
+}
+
+impl Compact {
+    /// Becomes what the rewriting makes of it.
+    fn rewrite<R: Rewrite>(&mut self, by: &R, space: &mut Workspace) -> Result<(), TooMany>
+        ensures { λ r. ⌜ Became (now (self .entry)) (now (self .exit)) (to (now (by .entry)) (formula-of (now (self .entry)))) r ⌝ }
+    {
+        let n = self.table.used();
+        self.table.rewrite(by, &mut space.images);
+        let top = space.images[n - 1];
+        let count = self.table.number(top, &mut space.numbers, &mut space.out);
+        if count > MOST {
+            self.table.cut(n);
+            return Err(TooMany);
+        }
+        self.table.adopt(&mut space.out, count);
+        Ok(())
+    }
+
+    /// Becomes the formula at a place of a table.
+    pub fn become_part(&mut self, table: &Table, at: u16, space: &mut Workspace) -> Result<(), TooMany>
+        requires { ⌜ at < length (parts-of (now table)) ⌝ }
+        ensures { λ r. ⌜ Became (now (self .entry)) (now (self .exit)) (formula (parts-of (now (table .entry))) at) r ⌝ }
+    {
+        let count = table.number(at, &mut space.numbers, &mut space.out);
+        if count > MOST {
+            return Err(TooMany);
+        }
+        self.table.adopt(&mut space.out, count);
+        Ok(())
+    }
+
+    /// One step of progression at the row's tick, by what the row knows; signals that it does not know stay as open readings.
+    pub fn step(&mut self, row: &Row<'_>, space: &mut Workspace) -> Result<(), TooMany>
+        ensures { λ r. ⌜ Became (now (self .entry)) (now (self .exit)) (step (assigned (now (row .entry) .tick) (now (now (row .entry) .signals))) (formula-of (now (self .entry)))) r ⌝ }
+    {
+        self.rewrite(row, space)
+    }
+
+    /// Closes the open readings that are known.
+    pub fn close<K: Known>(&mut self, known: &K, space: &mut Workspace) -> Result<(), TooMany>
+        ensures { λ r. ⌜ Became (now (self .entry)) (now (self .exit)) (close (closed-by (K·Known .known (now (known .entry)))) (formula-of (now (self .entry)))) r ⌝ }
+    {
+        self.rewrite(&Closing { known }, space)
+    }
+
+    /// The earliest open tick.
+    pub fn earliest_open(&self, space: &mut Workspace) -> Option<u32>
+        ensures { λ r. ⌜ r ≡ earliest (formula-of (now (self .entry))) ⌝ }
+    {
+        let n = self.table.used();
+        earliest_ticks(&self.table.places[0..n], &mut space.ticks);
+        space.ticks[n - 1]
     }
 }

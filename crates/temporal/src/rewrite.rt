@@ -96,6 +96,7 @@ pub impl Rewrite for Row<'_> as RowStep {
 }
 
 /// Closing open readings by what is known.
+#[derive(Drop)]
 pub struct Closing<'a, K> {
     pub known: &'a K,
 }

@@ -9,10 +9,12 @@ impl Workspace {
     pub fn new(heap: Global) -> Result<Workspace, AllocError> {
         let images = vec![in heap; 0; 256]?;
         let numbers = vec![in heap; 0; 768]?;
+        let ticks = vec![in heap; None; 256]?;
         let out = vec![in heap; Part::Const(false); 769]?;
         Ok(Workspace {
             images,
             numbers,
+            ticks,
             out,
         })
     }
