@@ -76,12 +76,14 @@ walked c = alike-true (formulas (compact-parts c)) (parts (formula-of c)) (c .wa
 pub counted : (c : Compact) → length (compact-parts c) ≡ length (parts (formula-of c))
 counted c = sym (formulas-length (compact-parts c)) ∙ ap length (walked c)
 
--- The formula stands at the last place.
+-- The last formula stands at the last place.
+pub last-formula : (ps : List Part) (n : ℕ) → 0 < length ps → n ≡ length ps → formula ps (n - 1) ≡ final (formulas ps)
+last-formula ps n h e =
+    let l = formulas-length ps in
+    ap (λ k. formula ps (k - 1)) (e ∙ sym l) ∙ final-at (formulas ps) (omega arith)
+
 pub top-formula : (c : Compact) (n : ℕ) → n ≡ length (compact-parts c) → formula (compact-parts c) (n - 1) ≡ formula-of c
-top-formula c n e =
-    let l = formulas-length (compact-parts c) in
-    ap (λ k. formula (compact-parts c) (k - 1)) (e ∙ sym l)
-    ∙ final-at (formulas (compact-parts c)) (let h = c .some in omega arith)
+top-formula c n e = last-formula (compact-parts c) n (c .some) e
 
 -- A constant is seen from its part.
 constant-part : (f : ℕ → Formula) (p : Part) → ((b : Bool) → p ≡ Const b → ⊥) → None ≡ constant (node f p)
@@ -137,19 +139,13 @@ read-back v ws us k x d l e h q =
     let m : length ws ≡ v .len = l ∙ ap length e ∙ sym (v .ok .0) in
     getD-read ws k x (omega arith) (q ∙ ap (λ z. getD z k x) (refilled-is v ws m)) d
 
--- A rewriting of every part, and the walk of what became of the formula.
-module _ (c : Compact) (to : Formula → Formula) (n : ℕ) (e : n ≡ length (compact-parts c)) (qs : List Part) (images : List ℕ)
-    (grown : Grown (2 * length (compact-parts c)) (compact-parts c) qs) (done : Imaged to qs images (length (compact-parts c)))
-    (top : ℕ) (at : top ≡ getD images (n - 1) 0) where
-  pub top-stands : Stands qs (to (formula-of c)) top
-  top-stands =
-      let h = c .some in
-      let l : n - 1 < length (compact-parts c) = omega arith in
-      subst (Stands qs (to (formula-of c))) (sym at)
-      (subst (λ f. Stands qs (to f) (getD images (n - 1) 0)) (formula-front (compact-parts c) qs (n - 1) (grown .front) l ∙ top-formula c n e) (done (n - 1) l))
-
-  pub top-walked : (rs : List Part) → formulas rs ≡ parts (formula qs top) → formulas rs ≡ parts (to (formula-of c))
-  top-walked rs w = w ∙ ap parts (top-stands .formula-is)
+-- A rewriting of every part: what became of the last formula.
+pub top-stands : (ps qs : List Part) (to : Formula → Formula) (images : List ℕ) (n top : ℕ) → 0 < length ps → n ≡ length ps
+    → Grown (2 * length ps) ps qs → Imaged to qs images (length ps) → top ≡ getD images (n - 1) 0 → Stands qs (to (final (formulas ps))) top
+top-stands ps qs to images n top h e grown done at =
+    let l : n - 1 < length ps = omega arith in
+    subst (Stands qs (to (final (formulas ps)))) (sym at)
+    (subst (λ f. Stands qs (to f) (getD images (n - 1) 0)) (formula-front ps qs (n - 1) (grown .front) l ∙ last-formula ps n h e) (done (n - 1) l))
 
 -- What the table is once it has adopted what was written.
 pub adopted : (f : Formula) (ps qs : List Part) (r : ℕ) → formulas qs ≡ parts f → ps ≡ qs → length qs ≡ r → r ≤ 256

@@ -1,11 +1,11 @@
 //! What one formula does.
-ghost use Prim.Native.Nat.{_<_};
+ghost use Prim.Native.Nat.{_*_, _<_, _≤_};
 ghost use mathlib.Core.Path.{_≡_};
 ghost use lib.ListN.{length, getD};
 ghost use Rattle.std.specs.Vec.{made};
 ghost use Rattle.temporal.specs.Formula.{never};
-ghost use Rattle.temporal.specs.Parts.{parts};
-ghost use Rattle.temporal.specs.Places.{blank, formula};
+ghost use Rattle.temporal.specs.Parts.{parts, final};
+ghost use Rattle.temporal.specs.Places.{in-use, blank, formula, formulas, Grown, Sound};
 ghost use Rattle.temporal.specs.Progress.{step, close};
 ghost use Rattle.temporal.specs.Readings.{assigned, closed-by};
 ghost use Rattle.temporal.specs.Earliest.{earliest};
@@ -69,15 +69,30 @@ impl Compact {
     }
 }
 
+impl Table {
+    /// Makes what the rewriting makes of the last part, and writes its parts in the walk's order; answers how many there are.
+    fn write_image<R: Rewrite>(&mut self, by: &R, space: &mut Workspace) -> usize
+        requires some { ⌜ 0 < length (parts-of (now self)) ⌝ }
+        requires few { ⌜ length (parts-of (now self)) ≤ 256 ⌝ }
+        ensures grown { λ _. ⌜ Grown (2 * length (parts-of (now (self .entry)))) (parts-of (now (self .entry))) (parts-of (now (self .exit))) ⌝ }
+        ensures few { λ r. ⌜ r ≤ 768 ⌝ }
+        ensures sound { λ r. ⌜ Sound (in-use r (now (space .exit) .out)) ⌝ }
+        ensures walked { λ r. ⌜ formulas (in-use r (now (space .exit) .out)) ≡ parts (to (now (by .entry)) (final (formulas (parts-of (now (self .entry)))))) ⌝ }
+    {
+        let n = self.used;
+        self.rewrite(by, &mut space.images);
+        let top = space.images[n - 1];
+        self.number(top, &mut space.numbers, &mut space.out)
+    }
+}
+
 impl Compact {
     /// Becomes what the rewriting makes of it.
     fn rewrite<R: Rewrite>(&mut self, by: &R, space: &mut Workspace) -> Result<(), TooMany>
         ensures { λ r. ⌜ Became (now (self .entry)) (now (self .exit)) (to (now (by .entry)) (formula-of (now (self .entry)))) r ⌝ }
     {
         let n = self.table.used();
-        self.table.rewrite(by, &mut space.images);
-        let top = space.images[n - 1];
-        let count = self.table.number(top, &mut space.numbers, &mut space.out);
+        let count = self.table.write_image(by, space);
         if count > MOST {
             self.table.cut(n);
             return Err(TooMany);
