@@ -11,3 +11,4 @@ pub mod Readings
 pub mod Numbered
 pub mod Earliest
 pub mod Compacts
+pub mod Rules

@@ -114,6 +114,15 @@ impl Compact {
         Ok(())
     }
 
+    /// Becomes what another is.
+    pub fn copy(&mut self, other: &Compact, space: &mut Workspace)
+        ensures { λ _. ⌜ formula-of (now (self .exit)) ≡ formula-of (now (other .entry)) ⌝ }
+    {
+        let top = other.table.used() - 1;
+        let count = other.table.number(top as u16, &mut space.numbers, &mut space.out);
+        self.table.adopt(&mut space.out, count);
+    }
+
     /// One step of progression at the row's tick, by what the row knows; signals that it does not know stay as open readings.
     pub fn step(&mut self, row: &Row<'_>, space: &mut Workspace) -> Result<(), TooMany>
         ensures { λ r. ⌜ Became (now (self .entry)) (now (self .exit)) (step (assigned (now (row .entry) .tick) (now (now (row .entry) .signals))) (formula-of (now (self .entry)))) r ⌝ }
