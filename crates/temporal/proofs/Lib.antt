@@ -13,4 +13,5 @@ pub mod Passing
 pub mod Numbers
 pub mod Firsts
 pub mod Compacting
+pub mod Ruling
 pub mod Examples

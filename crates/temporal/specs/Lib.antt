@@ -12,3 +12,4 @@ pub mod Numbered
 pub mod Earliest
 pub mod Compacts
 pub mod Rules
+pub mod Ruled

@@ -11,7 +11,9 @@ use Rattle.std.specs.declared.option.Option.the-variants.{Some, None}
 use Rattle.temporal.specs.Formula.{Formula}
 use Rattle.temporal.specs.Formula.Formula.{const, signal, reading, neg, join, next, finally, globally, until}
 use Rattle.temporal.specs.Obligation.{Closed}
-use Rattle.temporal.specs.Parts.{Part, parts}
+use Rattle.temporal.specs.Parts.{Part as PartOf, parts}
+use Rattle.temporal.specs.declared.part.Part.{Part}
+use Rattle.temporal.specs.declared.part.Part.the-variants.{Const, Signal, Open, One, Two}
 use Rattle.temporal.specs.declared.misfit.Misfit.{Misfit}
 use Rattle.temporal.specs.declared.misfit.Misfit.the-variants.{Signals, Parts, Leaf}
 
@@ -27,6 +29,14 @@ plain n (finally f) = true
 plain n (globally f) = true
 plain n (until f g) = true
 
+-- The same, seen from the part.
+abbrev pub plain-part : ℕ → Part → Bool
+plain-part n (Const b) = true
+plain-part n (Signal p) = ltb p n
+plain-part n (Open p s) = false
+plain-part n (One u a) = true
+plain-part n (Two b x y) = true
+
 abbrev pub all-plain : ℕ → List Formula → Bool
 all-plain n [] = true
 all-plain n (f ∷ fs) = cond (plain n f) (all-plain n fs) false
@@ -38,4 +48,4 @@ misfit n f = cond (ltb 32 n) (Some Signals) (cond (ltb 64 (length (parts f))) (S
 -- That all parts are plain says that nothing is open and that every signal is below n.
 abbrev pub Plain-means : Type 0
 Plain-means =
-    (n : ℕ) (f : Formula) → (all-plain n (parts f) ≡ true) ↔ (Closed f × ((p : ℕ) → Part (signal p) f → p < n))
+    (n : ℕ) (f : Formula) → (all-plain n (parts f) ≡ true) ↔ (Closed f × ((p : ℕ) → PartOf (signal p) f → p < n))
