@@ -6,12 +6,5 @@ pub mod Owed
 pub mod Lists
 pub mod Parts
 pub mod Order
-pub mod Places
-pub mod Shaping
-pub mod Interned
-pub mod Passing
-pub mod Numbers
-pub mod Firsts
-pub mod Compacting
-pub mod Ruling
 pub mod Examples
+pub mod Firsts

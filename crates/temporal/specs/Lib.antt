@@ -5,11 +5,4 @@ pub mod Obligation
 pub mod Parts
 pub mod Laws
 pub mod Examples
-pub mod Places
-pub mod Tables
-pub mod Readings
-pub mod Numbered
 pub mod Earliest
-pub mod Compacts
-pub mod Rules
-pub mod Ruled

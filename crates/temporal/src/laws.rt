@@ -17,7 +17,6 @@ ghost use Rattle.temporal.specs.Laws.{Closing-adds-no-part};
 ghost use Rattle.temporal.specs.Laws.{Step-makes-two};
 ghost use Rattle.temporal.specs.Earliest.{Earliest-is-first};
 ghost use Rattle.temporal.specs.Examples.{Worked-examples};
-ghost use Rattle.temporal.specs.Rules.{Plain-means};
 
 /// What keeps constants and rebuilds not, and, or with the shortening constructors commutes with those constructors.
 pub fn rebuilding_commutes() -> u8
@@ -134,13 +133,6 @@ pub fn step_makes_two() -> u8
 /// The earliest open tick is open, and none is earlier; without one nothing is open.
 pub fn earliest_is_first() -> u8
     ensures { λ _. ⌜ Earliest-is-first ⌝ }
-{
-    0
-}
-
-/// That all parts of a formula are plain says that nothing is open and that every signal is below the number of signals.
-pub fn plain_means() -> u8
-    ensures { λ _. ⌜ Plain-means ⌝ }
 {
     0
 }

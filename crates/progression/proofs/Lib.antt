@@ -1,0 +1,4 @@
+pub mod Passing
+pub mod Ticks
+pub mod Numbers
+pub mod Compacting

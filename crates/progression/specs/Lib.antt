@@ -1,0 +1,4 @@
+pub mod Passes
+pub mod Readings
+pub mod Numbered
+pub mod Compacts

@@ -1,0 +1,10 @@
+//! A rule: a formula that a station can watch.
+mod misfit;
+mod rule;
+mod rules;
+
+pub use misfit::Misfit;
+pub use rule::Rule;
+pub use rules::RULE_PARTS;
+pub use rules::SIGNALS;
+pub use rules::plain_means;

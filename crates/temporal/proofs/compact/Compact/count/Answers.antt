@@ -1,6 +1,0 @@
-use mathlib.Core.Path.{_∙_}
-use Rattle.temporal.proofs.Compacting.{counted}
-use Rattle.temporal.proofs.compact.Compact.count.Needs as need
-
-pub returns : need.returns
-returns c = c .used .ensures ∙ counted (c .args .self .now)

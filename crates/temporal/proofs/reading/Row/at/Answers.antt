@@ -1,9 +1,0 @@
-use mathlib.Core.Path.{_≡_, sym, ap}
-use native.Mathlib.Omega.{arith}
-use Rattle.std.proofs.shelf.Lists.{getD-past}
-use Rattle.temporal.specs.Readings.{value}
-use Rattle.temporal.specs.declared.reading.Reading.the-variants.{Open}
-use Rattle.temporal.proofs.reading.Row.at.Needs as need
-
-pub returns-then-i-self : need.returns-then-i-self
-returns-then-i-self c = sym (ap value (getD-past _ (c .args .signal) Open (c .if-i-self .taken)))

@@ -1,5 +1,0 @@
-use Rattle.temporal.proofs.Shaping.{const-tested}
-use Rattle.temporal.proofs.shapes.is_const.Needs as need
-
-pub returns : need.returns
-returns c = const-tested _ _ _ _ (c .pre .sound) (c .pre .x) (c .is-same .ensures)
