@@ -71,6 +71,15 @@ impl Rule {
         &self.formula
     }
 
+    /// Becomes what another is.
+    pub fn copy(&mut self, other: &Rule, space: &mut Workspace)
+        ensures formula { λ _. ⌜ rule-formula (now (self .exit)) ≡ rule-formula (now (other .entry)) ⌝ }
+        ensures signals { λ _. ⌜ now (self .exit) .signals ≡ now (other .entry) .signals ⌝ }
+    {
+        self.formula.copy(&other.formula, space);
+        self.signals = other.signals;
+    }
+
     /// Becomes the formula at a place of a table, over so many signals; else says why that is no rule.
     pub fn become_part(&mut self, table: &Table, at: u16, signals: u8, space: &mut Workspace) -> Result<(), Misfit>
         requires { ⌜ at < length (parts-of (now table)) ⌝ }

@@ -8,3 +8,4 @@ pub mod Parts
 pub mod Order
 pub mod Examples
 pub mod Firsts
+pub mod Names

@@ -1,0 +1,10 @@
+//! The global monitor: it sees all signals of a site and progresses the rule by them.
+mod monitor;
+mod monitors;
+mod readings;
+mod verdict;
+
+pub use monitor::Monitor;
+pub use monitors::LAST_TICK;
+pub use verdict::Hold;
+pub use verdict::Verdict;
