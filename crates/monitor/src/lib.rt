@@ -6,5 +6,6 @@ mod verdict;
 
 pub use monitor::Monitor;
 pub use monitors::LAST_TICK;
+pub use monitors::monitor_decides;
 pub use verdict::Hold;
 pub use verdict::Verdict;

@@ -3,7 +3,7 @@ ghost use mathlib.Core.Path.{_≡_};
 ghost use Rattle.std.specs.Vec.{made, refused};
 ghost use Rattle.rule.specs.Ruled.{rule-formula};
 ghost use Rattle.progression.specs.Compacts.{compact-parts, constant, formula-of};
-ghost use Rattle.monitor.specs.Watching.{Steps, decide, fresh, verdict-of};
+ghost use Rattle.monitor.specs.Watching.{Monitor-decides, Steps, decide, fresh, verdict-of};
 ghost use Rattle.monitor.specs.Monitors.{state-of};
 use crate::monitor::Monitor;
 use crate::readings::fill;
@@ -111,4 +111,12 @@ impl Monitor {
     {
         &self.obligation
     }
+}
+
+/// After any list of whole readings the obligation is the rule's progression through them, and the deciding tick is the one
+/// whose step first made it constant.
+pub fn monitor_decides() -> u8
+    ensures { λ _. ⌜ Monitor-decides ⌝ }
+{
+    0
 }

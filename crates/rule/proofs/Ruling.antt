@@ -103,7 +103,7 @@ all-in : (n : ℕ) (fs : List Formula) → ((f : Formula) → In f fs → plain 
 all-in n [] h = refl
 all-in n (f ∷ fs) h = rw (h f (inl refl)) (all-in n fs (λ g k. h g (inr k)))
 
-open-part : (p e : ℕ) (f : Formula) → OpenIn p e f → PartOf (reading p e) f
+pub open-part : (p e : ℕ) (f : Formula) → OpenIn p e f → PartOf (reading p e) f
 open-part p e (const b) k = absurd k
 open-part p e (signal q) k = absurd k
 open-part p e (reading q s) k = let a = k .0 in let b = k .1 in cc
@@ -116,7 +116,7 @@ open-part p e (globally f) k = inr (open-part p e f k)
 open-part p e (until f g) (inl k) = inr (inl (open-part p e f k))
 open-part p e (until f g) (inr k) = inr (inr (open-part p e g k))
 
-part-open : (p e : ℕ) (f : Formula) → PartOf (reading p e) f → OpenIn p e f
+pub part-open : (p e : ℕ) (f : Formula) → PartOf (reading p e) f → OpenIn p e f
 part-open p e (const b) k = let z : true ≡ false = cc in false≢true (sym z)
 part-open p e (signal q) k = let z : true ≡ false = cc in false≢true (sym z)
 part-open p e (reading q s) k = let a : q ≡ p = cc in let b : s ≡ e = cc in (a, b)
