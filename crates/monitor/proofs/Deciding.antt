@@ -70,9 +70,13 @@ first s (w ∷ ws) t e n r = go (constant (progressed s w)) refl (first (stepped
         → First s (w ∷ ws) t
     go (Some b) q rest =
         let k : Some (s .next) ≡ Some t = sym (stays (stepped s w) ws (s .next) (made (Some b) q)) ∙ r in
-        let l : s .next ≡ t = cc in
-        (0, omega arith, omega arith, (b, constant-some (progressed s w) b q),
-        none-now)
+        let l : s .next ≡ t = cc in (
+          0,
+          omega arith,
+          omega arith,
+          (b, constant-some (progressed s w) b q),
+          none-now,
+        )
       where
         none-now : (j : ℕ) → j ≤ 0 → (c : Bool) → through (map bit (take j (w ∷ ws))) (s .obligation) ≡ const c → ⊥
         none-now zero h = n

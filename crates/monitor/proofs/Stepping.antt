@@ -46,9 +46,10 @@ same-step n t w row f few plain filled =
 pub plain-kept : (n : ℕ) (a : ℕ → Bool) (f : Formula) → all-plain n (parts f) ≡ true → all-plain n (parts (step (reads a) f)) ≡ true
 plain-kept n a f h =
     let w = plain-means n f .0 h in
-    plain-means n (step (reads a) f) .1
-    (λ p e k. w .0 p e (part-open p e f (step-bare (reading p e) bare-reading a f (open-part p e (step (reads a) f) k))),
-    λ p k. w .1 p (step-bare (signal p) bare-signal a f k))
+    plain-means n (step (reads a) f) .1 (
+      λ p e k. w .0 p e (part-open p e f (step-bare (reading p e) bare-reading a f (open-part p e (step (reads a) f) k))),
+      λ p k. w .1 p (step-bare (signal p) bare-signal a f k),
+    )
   where
     bare-signal : {p : ℕ} → Bare (signal p)
     bare-signal {p} = record {

@@ -20,7 +20,11 @@ fn bit_of(reading: u32, j: usize) -> Reading
     requires { ⌜ j < 32 ⌝ }
     ensures { λ r. ⌜ r ≡ shown (bit reading j) ⌝ }
 {
-    if (reading >> j) % 2 == 1 { Reading::On } else { Reading::Off }
+    if (reading >> j) % 2 == 1 {
+        Reading::On
+    } else {
+        Reading::Off
+    }
 }
 
 /// Writes what each bit of a reading shows.

@@ -326,8 +326,8 @@ pub sound-take : (ps : List Part) (n : ℕ) → n ≤ length ps → Sound ps →
 sound-take ps n h s = record {
   ordered = λ i l. subst (λ p. reach p ≤ i) (sym (getD-take n ps i blank (low i l))) (s .ordered i (in-front i l));
   once = λ i j w e.
-    let l : i < length (take n ps) = omega (arith, w .0, w .1) in
-    s .once i j (w .0, in-front j (w .1)) (same-at i l ∙ e ∙ sym (same-at j (w .1)));
+      let l : i < length (take n ps) = omega (arith, w .0, w .1) in
+      s .once i j (w .0, in-front j (w .1)) (same-at i l ∙ e ∙ sym (same-at j (w .1)));
   short = λ i l. subst (λ f. short f ≡ true) (same-at i l) (s .short i (in-front i l));
 }
   where

@@ -47,11 +47,11 @@ begun-tested ps o x y r u a b s h k e w =
     by-when r (begins (op o) (formula ps x) (formula ps y)) (Two u a b ≡ Two (Join o) x b) w
     (λ q. rw (formula-part ps y (s .ordered) k (Two (Join o) x b) (e ∙ q)) (begins-join (op o) (formula ps x) (formula ps b)))
     (λ t.
-      let g = begins-true (op o) (formula ps x) (formula ps y) t in
-      let fy = formula-part ps y (s .ordered) k (Two u a b) e in
-      let end : g .0 ≡ formula ps b = sym (of-two (Join o) (formula ps x) (g .0) .3) ∙ ap right (sym (g .1) ∙ fy) ∙ of-two u (formula ps a) (formula ps b) .3 in
-      let low : reach (Two u a b) ≤ y = subst (λ z. reach z ≤ y) e (s .ordered y k) in
-      sym e ∙ part-is ps y (Two (Join o) x b) s k (omega arith) (g .1 ∙ ap (join (op o) (formula ps x)) end))
+    let g = begins-true (op o) (formula ps x) (formula ps y) t in
+    let fy = formula-part ps y (s .ordered) k (Two u a b) e in
+    let end : g .0 ≡ formula ps b = sym (of-two (Join o) (formula ps x) (g .0) .3) ∙ ap right (sym (g .1) ∙ fy) ∙ of-two u (formula ps a) (formula ps b) .3 in
+    let low : reach (Two u a b) ≤ y = subst (λ z. reach z ≤ y) e (s .ordered y k) in
+    sym e ∙ part-is ps y (Two (Join o) x b) s k (omega arith) (g .1 ∙ ap (join (op o) (formula ps x)) end))
 
 only-two : (p : Part) → kindp p ≡ 4 → (u : Binary) × (a : ℕ) × (b : ℕ) × (p ≡ Two u a b)
 only-two (Const v) e = absurd (omega arith)

@@ -9,8 +9,8 @@ use crate::part::Binary;
 use crate::part::Junction;
 use crate::part::Part;
 use crate::part::Unary;
-use crate::shape::Shape;
 use crate::search::is_same;
+use crate::shape::Shape;
 
 /// Whether the part at `x` is a constant.
 fn is_const(parts: &[Part], x: u16, value: bool) -> bool

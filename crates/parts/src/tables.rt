@@ -48,7 +48,11 @@ impl Table {
     pub fn constant(&mut self, value: bool) -> Option<u16>
         ensures { λ r. ⌜ Interned (parts-of (now (self .entry))) (parts-of (now (self .exit))) (const value) r ⌝ }
     {
-        intern(&mut self.places, &mut self.used, Shape::Is(Part::Const(value)))
+        intern(
+            &mut self.places,
+            &mut self.used,
+            Shape::Is(Part::Const(value)),
+        )
     }
 
     /// The place of a signal; `None` where there is no room for it.
@@ -62,7 +66,11 @@ impl Table {
     pub fn open(&mut self, p: u8, tick: u32) -> Option<u16>
         ensures { λ r. ⌜ Interned (parts-of (now (self .entry))) (parts-of (now (self .exit))) (reading p tick) r ⌝ }
     {
-        intern(&mut self.places, &mut self.used, Shape::Is(Part::Open(p, tick)))
+        intern(
+            &mut self.places,
+            &mut self.used,
+            Shape::Is(Part::Open(p, tick)),
+        )
     }
 
     /// The place of not, X, F or G over the part at `x`, shortened; `None` where there is no room for it.

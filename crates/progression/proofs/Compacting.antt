@@ -64,8 +64,7 @@ parts-some f = let w = parts-end f in let l = length-push (w .0) f in omega (ari
 pub walked-alike : (qs : List Part) (f : Formula) → formulas qs ≡ parts f
     → (0 < length qs) × (final (formulas qs) ≡ f) × (alike (formulas qs) (parts (final (formulas qs))) ≡ true)
 walked-alike qs f e =
-    let q : final (formulas qs) ≡ f = ap final e ∙ final-parts f in
-    (
+    let q : final (formulas qs) ≡ f = ap final e ∙ final-parts f in (
       omega (arith, parts-some f, formulas-length qs, ap length e),
       q,
       subst (λ z. alike (formulas qs) z ≡ true) (e ∙ ap parts (sym q)) (alike-refl (formulas qs)),
@@ -127,8 +126,7 @@ fresh-walked b ps qs (Some i) e d =
     let l = d .grown .few in
     let h = d .stands .inside in
     let k = formulas-length qs in
-    let n = ap length e in
-    (
+    let n = ap length e in (
       single (formulas qs) (const b) i (omega arith) (omega arith) (d .stands .formula-is) ∙ sym (finish-new (const b) [] (λ z. z)),
       omega arith,
     )

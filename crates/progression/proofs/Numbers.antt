@@ -279,10 +279,10 @@ numbered-sound ps ns qs s n = record {
   ordered = n .ordered;
   once = λ i j h e. distinct-at (formulas qs) (n .distinct) i j (h .0, (let l = formulas-length qs in omega (arith, h .1))) e;
   short = λ i h.
-    let l = formulas-length qs in
-    let m = formulas-length ps in
-    let w = found-at (formula qs i) (formulas ps) (n .within (formula qs i) (in-at (formulas qs) i (omega arith))) in
-    subst (λ f. short f ≡ true) (w .2) (s .short (w .0) (let k = w .1 in omega arith));
+      let l = formulas-length qs in
+      let m = formulas-length ps in
+      let w = found-at (formula qs i) (formulas ps) (n .within (formula qs i) (in-at (formulas qs) i (omega arith))) in
+      subst (λ f. short f ≡ true) (w .2) (s .short (w .0) (let k = w .1 in omega arith));
 }
 
 pub nothing : formulas [] ≡ []

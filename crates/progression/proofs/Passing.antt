@@ -22,7 +22,6 @@ use Rattle.parts.specs.declared.part.Junction.{Junction}
 use Rattle.parts.specs.declared.part.Part.{Part}
 use Rattle.parts.specs.declared.part.Part.the-variants.{Const, Signal, Open, One, Two}
 use Rattle.parts.proofs.Places.{formula-part, stands-on}
-
 use Rattle.parts.proofs.Making.{made-here, made-as, stood, one-low, two-low}
 
 -- One step, by the top sign.
@@ -107,9 +106,9 @@ pub imaged-more : (to : Formula → Formula) (ps qs : List Part) (images : List 
 imaged-more to ps qs images i x h l done d =
     below-more (λ k. Stands qs (to (formula qs k)) (getD (set images i x) k 0)) i
     (λ k lt.
-      let ne : k ≢ i = omega arith in
-      subst (Stands qs (to (formula qs k))) (sym (getD-set-other images i k x 0 ne))
-      (subst (λ f. Stands qs (to f) (getD images k 0)) (sym (stood 2 ps qs _ x k d (omega arith)))
-      (stands-on 2 ps qs (to (formula ps k)) (getD images k 0) (d .grown) (done k lt))))
+    let ne : k ≢ i = omega arith in
+    subst (Stands qs (to (formula qs k))) (sym (getD-set-other images i k x 0 ne))
+    (subst (λ f. Stands qs (to f) (getD images k 0)) (sym (stood 2 ps qs _ x k d (omega arith)))
+    (stands-on 2 ps qs (to (formula ps k)) (getD images k 0) (d .grown) (done k lt))))
     (subst (Stands qs (to (formula qs i))) (sym (getD-set-same images i x 0 h))
     (subst (λ f. Stands qs (to f) x) (sym (stood 2 ps qs _ x i d l)) (d .stands)))

@@ -23,7 +23,6 @@ use Rattle.parts.proofs.Places.{formula-part}
 use Rattle.parts.proofs.Making.{one-low, two-low}
 use Rattle.temporal.specs.Earliest.{earlier, earliest, Earliest-is-first}
 
-
 -- By the top sign of a part.
 earliest-one : (u : Unary) (f : Formula) → earliest (one u f) ≡ earliest f
 earliest-one Not f = refl

@@ -12,7 +12,6 @@ ghost use Rattle.temporal.specs.Earliest.{earliest};
 ghost use Rattle.parts.specs.Tables.{parts-of};
 ghost use Rattle.progression.specs.Compacts.{Became, compact-parts, constant, formula-of};
 use crate::compact::Compact;
-use parts::Part;
 use crate::earliest::earliest_ticks;
 use crate::numbering::number;
 use crate::pass::pass;
@@ -22,8 +21,9 @@ use crate::rewrite::Closing;
 use crate::rewrite::ClosingRewrite;
 use crate::rewrite::Rewrite;
 use crate::rewrite::RowStep;
-use parts::Table;
 use crate::workspace::Workspace;
+use parts::Part;
+use parts::Table;
 use std::alloc::AllocError;
 use std::alloc::Global;
 
@@ -102,7 +102,12 @@ impl Compact {
     }
 
     /// Becomes the formula at a place of a table.
-    pub fn become_part(&mut self, table: &Table, at: u16, space: &mut Workspace) -> Result<(), TooMany>
+    pub fn become_part(
+        &mut self,
+        table: &Table,
+        at: u16,
+        space: &mut Workspace,
+    ) -> Result<(), TooMany>
         requires { ⌜ at < length (parts-of (now table)) ⌝ }
         ensures { λ r. ⌜ Became (now (self .entry)) (now (self .exit)) (formula (parts-of (now (table .entry))) at) r ⌝ }
     {

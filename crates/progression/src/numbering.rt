@@ -33,7 +33,13 @@ fn write(at: u16, part: Part, numbers: &mut [u16], out: &mut Vec<Part>, count: &
 }
 
 /// Writes what the part at `at` needs and is not written yet, left before right, and then the part; answers its number.
-pub fn walk(parts: &[Part], at: u16, numbers: &mut [u16], out: &mut Vec<Part>, count: &mut usize) -> u16
+pub fn walk(
+    parts: &[Part],
+    at: u16,
+    numbers: &mut [u16],
+    out: &mut Vec<Part>,
+    count: &mut usize,
+) -> u16
     requires sound { ⌜ Sound (now parts) ⌝ }
     requires few { ⌜ length (now parts) ≤ 768 ⌝ }
     requires at { ⌜ at < length (now parts) ⌝ }

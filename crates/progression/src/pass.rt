@@ -5,8 +5,8 @@ ghost use lib.ListN.{length};
 ghost use Rattle.std.specs.Of.Vec.{vec-len};
 ghost use Rattle.parts.specs.Places.{in-use, Sound, Grown};
 ghost use Rattle.progression.specs.Passes.{Imaged};
-use parts::Part;
 use crate::rewrite::Rewrite;
+use parts::Part;
 
 /// Rewrites every part in use, operands before their users; `images` then has the place of what became of each.
 pub fn pass<R: Rewrite>(places: &mut Vec<Part>, used: &mut usize, by: &R, images: &mut [u16])

@@ -53,6 +53,10 @@ pub impl Known for Row<'_> as RowKnown {
     ghost known = { λ r p s. cond (eqb s (r .tick)) (known-at (now (r .signals)) p) None };
 
     fn look_up(&self, signal: u8, tick: u32) -> Option<bool> {
-        if tick == self.tick { self.at(signal) } else { None }
+        if tick == self.tick {
+            self.at(signal)
+        } else {
+            None
+        }
     }
 }

@@ -9,16 +9,16 @@ ghost use Rattle.parts.specs.Places.{in-use, Sound, Made, formula};
 ghost use Rattle.progression.specs.Passes.{Imaged, stepped-one, stepped-two};
 ghost use Rattle.temporal.specs.Progress.{step, close};
 ghost use Rattle.progression.specs.Readings.{assigned, closed-by};
-use parts::part_at;
-use parts::put_binary;
-use parts::put_leaf;
-use parts::put_unary;
+use crate::reading::Known;
+use crate::reading::Row;
 use parts::Binary;
 use parts::Junction;
 use parts::Part;
 use parts::Unary;
-use crate::reading::Known;
-use crate::reading::Row;
+use parts::part_at;
+use parts::put_binary;
+use parts::put_leaf;
+use parts::put_unary;
 
 /// What it makes of a formula depends on its top part and on what it makes of the operands.
 pub trait Rewrite {
@@ -56,7 +56,14 @@ fn step_unary(places: &mut Vec<Part>, used: &mut usize, sign: Unary, at: u16, a:
 }
 
 /// A step of and, or or U: of the part at `at`, whose operands became the parts at `x` and `y`.
-fn step_binary(places: &mut Vec<Part>, used: &mut usize, sign: Binary, at: u16, x: u16, y: u16) -> u16
+fn step_binary(
+    places: &mut Vec<Part>,
+    used: &mut usize,
+    sign: Binary,
+    at: u16,
+    x: u16,
+    y: u16,
+) -> u16
     requires long { ⌜ vec-len (now places) ≡ 769 ⌝ }
     requires room { ⌜ now used + 2 ≤ 768 ⌝ }
     requires sound { ⌜ Sound (in-use (now used) (now places)) ⌝ }
@@ -118,7 +125,13 @@ pub impl<K: Known> Rewrite for Closing<'_, K> as ClosingRewrite {
                 _ => at,
             },
             Part::Two(sign, a, b) => match sign {
-                Binary::Join(_) => put_binary(places, used, sign, images[a as usize], images[b as usize]),
+                Binary::Join(_) => put_binary(
+                    places,
+                    used,
+                    sign,
+                    images[a as usize],
+                    images[b as usize],
+                ),
                 Binary::Until => at,
             },
         }

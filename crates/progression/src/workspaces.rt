@@ -1,6 +1,6 @@
 //! What a workspace does.
-use parts::Part;
 use crate::workspace::Workspace;
+use parts::Part;
 use std::alloc::AllocError;
 use std::alloc::Global;
 

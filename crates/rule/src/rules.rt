@@ -8,11 +8,11 @@ ghost use Rattle.parts.specs.Places.{Sound, formula, formulas, node};
 ghost use Rattle.parts.specs.Tables.{parts-of};
 ghost use Rattle.rule.specs.Rules.{Plain-means, all-plain, plain-part};
 ghost use Rattle.rule.specs.Ruled.{Ruled, rule-formula};
-use progression::Compact;
 use crate::misfit::Misfit;
-use parts::Part;
 use crate::rule::Rule;
+use parts::Part;
 use parts::Table;
+use progression::Compact;
 use progression::Workspace;
 use progression::number;
 use std::alloc::AllocError;
@@ -54,7 +54,10 @@ impl Rule {
         ensures { λ r. ⌜ made r (λ t. (rule-formula t ≡ never) × (t .signals ≡ 0)) ⌝ }
     {
         let formula = Compact::new(heap)?;
-        Ok(Rule { formula, signals: 0 })
+        Ok(Rule {
+            formula,
+            signals: 0,
+        })
     }
 
     /// How many signals it is over.
@@ -81,7 +84,13 @@ impl Rule {
     }
 
     /// Becomes the formula at a place of a table, over so many signals; else says why that is no rule.
-    pub fn become_part(&mut self, table: &Table, at: u16, signals: u8, space: &mut Workspace) -> Result<(), Misfit>
+    pub fn become_part(
+        &mut self,
+        table: &Table,
+        at: u16,
+        signals: u8,
+        space: &mut Workspace,
+    ) -> Result<(), Misfit>
         requires { ⌜ at < length (parts-of (now table)) ⌝ }
         ensures { λ r. ⌜ Ruled (now (self .entry)) (now (self .exit)) signals (formula (parts-of (now (table .entry))) at) r ⌝ }
     {

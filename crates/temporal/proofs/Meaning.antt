@@ -233,9 +233,11 @@ begins-same r s t (x ∷ xs) e b =
 recorded-begins : (xs : List (ℕ → Bool)) (t : ℕ) → Begins (recorded xs t) t xs
 unfolding recorded
 recorded-begins [] t = tt
-recorded-begins (x ∷ xs) t =
-    (λ p. let y : eqb t t ≡ true = grind (arith, tells) in simp y, begins-same (recorded xs (suc t)) (recorded (x ∷ xs) t) (suc t) xs
-    (λ u h p. let n : eqb u t ≡ false = grind (arith, tells) in simp n) (recorded-begins xs (suc t)))
+recorded-begins (x ∷ xs) t = (
+  λ p. let y : eqb t t ≡ true = grind (arith, tells) in simp y,
+  begins-same (recorded xs (suc t)) (recorded (x ∷ xs) t) (suc t) xs
+      (λ u h p. let n : eqb u t ≡ false = grind (arith, tells) in simp n) (recorded-begins xs (suc t)),
+)
 
 pub runs-abound : Runs-abound
 runs-abound =

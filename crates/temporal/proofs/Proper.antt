@@ -139,4 +139,3 @@ module _ (ρ : ℕ → ℕ → Formula) (σ τ : ℕ → Formula)
       ∙ ap₂ (joinˢ or) (close-step Never g (w .1) ∙ ap (step τ) (never-same g (w .1)))
       (close-commutes ρ .with-join and (step σ f) (until f g)
       ∙ ap (λ x. joinˢ and x (until f g)) (close-step Never f (w .0) ∙ ap (step τ) (never-same f (w .0))))
-

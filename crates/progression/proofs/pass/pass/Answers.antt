@@ -18,8 +18,7 @@ loop-i-again g c =
     let e = c .image-x .ensures in
     let ps = in-use (c .loop-i .used) (c .loop-i .places) in
     let a = used-length (c .args .places .now) (c .args .used .now) (c .pre .long) (omega (arith, c .pre .room)) in
-    let b = used-length (c .loop-i .places) (c .loop-i .used) (inv .0) (inv .4) in
-    (
+    let b = used-length (c .loop-i .places) (c .loop-i .used) (inv .0) (inv .4) in (
       e .long,
       grown-on (2 * c .loop-i .i) 2 _ (in-use (c .args .used .now) (c .args .places .now)) ps (in-use (c .image-x .last .used) (c .image-x .last .places)) (omega arith) (inv .1) (e .made .grown),
       e .made .sound,

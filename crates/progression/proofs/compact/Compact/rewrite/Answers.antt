@@ -15,8 +15,7 @@ returns-then-count-gt-MOST g c =
     let w = c .write-image-count .ensures in
     let out = c .write-image-count .last .space .out in
     let r = c .write-image-count .result in
-    let l = used-length out r (c .write-image-count .last .space .«out_long») (w .few) in
-    (
+    let l = used-length out r (c .write-image-count .last .space .«out_long») (w .few) in (
       omega (arith, ap length (w .walked), formulas-length (in-use r out), c .if-count-gt-MOST .taken),
       c .cut .ensures ∙ ap (λ k. take k (parts-of (c .write-image-count .last .table))) (c .used-n .ensures) ∙ w .grown .front,
     )

@@ -64,7 +64,7 @@ returns-in-rest g c =
     record {
       long = c .pre .long;
       fits = omega (arith, c .pre .room);
-      made = left-alone (close (closed-by (g .K·Known .known (c .args .self .now .known .now)))) 2 _ (c .args .at) _ (c .pre .sound) (omega (arith, c .pre .inside)) (c .in-One .ensures tt) 
+      made = left-alone (close (closed-by (g .K·Known .known (c .args .self .now .known .now)))) 2 _ (c .args .at) _ (c .pre .sound) (omega (arith, c .pre .inside)) (c .in-One .ensures tt)
           (close-time (closed-by (g .K·Known .known (c .args .self .now .known .now))) (c .in-One .sign) (formula (in-use (c .args .used .now) (c .args .places .now)) (c .in-One .a)) (c .in-rest .not-Not));
     }
 
@@ -84,6 +84,6 @@ returns-in-Until g c =
     record {
       long = c .pre .long;
       fits = omega (arith, c .pre .room);
-      made = left-alone (close (closed-by (g .K·Known .known (c .args .self .now .known .now)))) 2 _ (c .args .at) _ (c .pre .sound) (omega (arith, c .pre .inside)) (c .in-Two .ensures tt) 
+      made = left-alone (close (closed-by (g .K·Known .known (c .args .self .now .known .now)))) 2 _ (c .args .at) _ (c .pre .sound) (omega (arith, c .pre .inside)) (c .in-Two .ensures tt)
           (close-until (closed-by (g .K·Known .known (c .args .self .now .known .now))) (c .in-Two .sign) (formula (in-use (c .args .used .now) (c .args .places .now)) (c .in-Two .a)) (formula (in-use (c .args .used .now) (c .args .places .now)) (c .in-Two .b)) (c .in-Until .is));
     }

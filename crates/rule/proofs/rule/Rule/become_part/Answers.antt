@@ -28,8 +28,7 @@ returns-then-not-are-plain c =
     let out = c .number-count .last .out in
     let r = c .number-count .result in
     let l = used-length out r (w .long) (w .few) in
-    let e = ap formulas (front r (vec-items out) (c .deref .result .now) (c .deref .ensures .value)) ∙ w .walked in
-    (
+    let e = ap formulas (front r (vec-items out) (c .deref .result .now) (c .deref .ensures .value)) ∙ w .walked in (
       misfit-leaf _ _ (c .if-signals-gt-SIGNALS .left) (omega (arith, ap length (w .walked), formulas-length (in-use r out), c .if-count-gt-RULE-PARTS .left))
           (c .if-not-are-plain .ensures tt ∙ ap (all-plain (c .args .signals)) e),
       refl,
@@ -49,8 +48,7 @@ ghost-self-2 c =
     let r = c .number-count .result in
     let l = used-length out r (w .long) (w .few) in
     let a = adopted (formula (parts-of (c .args .table .now)) (c .args .at)) (parts-of (c .adopt .last .self)) _ _ (w .walked) (c .adopt .ensures .parts) l (omega (arith, c .if-count-gt-RULE-PARTS .left)) in
-    let e = ap formulas (front r (vec-items out) (c .deref .result .now) (c .deref .ensures .value)) ∙ w .walked in
-    (
+    let e = ap formulas (front r (vec-items out) (c .deref .result .now) (c .deref .ensures .value)) ∙ w .walked in (
       c .if-signals-gt-SIGNALS .left,
       (
         omega (arith, ap (λ f. length (parts f)) (a .3), ap length (w .walked), formulas-length (in-use r out), c .if-count-gt-RULE-PARTS .left),
@@ -64,8 +62,7 @@ returns c =
     let out = c .number-count .last .out in
     let r = c .number-count .result in
     let l = used-length out r (w .long) (w .few) in
-    let e = ap formulas (front r (vec-items out) (c .deref .result .now) (c .deref .ensures .value)) ∙ w .walked in
-    (
+    let e = ap formulas (front r (vec-items out) (c .deref .result .now) (c .deref .ensures .value)) ∙ w .walked in (
       misfit-none _ _ (c .if-signals-gt-SIGNALS .left) (omega (arith, ap length (w .walked), formulas-length (in-use r out), c .if-count-gt-RULE-PARTS .left))
           (c .if-not-are-plain .ensures tt ∙ ap (all-plain (c .args .signals)) e),
       adopted (formula (parts-of (c .args .table .now)) (c .args .at)) (parts-of (c .adopt .last .self)) _ _ (w .walked) (c .adopt .ensures .parts) l (omega (arith, c .if-count-gt-RULE-PARTS .left)) .3,
