@@ -44,9 +44,12 @@ impl Compact {
         Ok(Compact { table })
     }
 
-    /// How many parts it has.
+    /// How many parts it has: at least one, and no more than it may.
     pub fn count(&self) -> usize
-        ensures { λ r. ⌜ r ≡ length (parts (formula-of (now (self .entry)))) ⌝ }
+        ensures parts { λ r. ⌜ r ≡ length (parts (formula-of (now (self .entry)))) ⌝ }
+        ensures places { λ r. ⌜ r ≡ length (compact-parts (now (self .entry))) ⌝ }
+        ensures some { λ r. ⌜ 0 < r ⌝ }
+        ensures few { λ r. ⌜ r ≤ 256 ⌝ }
     {
         self.table.used()
     }

@@ -1,11 +1,12 @@
+use borrow.Author.Needs.{needs}
 use Rattle.parts.proofs.Shaping.{not-const-way, not-kept-way, time-way}
 use Rattle.parts.proofs.shapes.unary.Needs as need
 
 pub returns-in-Const : need.returns-in-Const
-returns-in-Const c = not-const-way _ _ _ _ (c .pre .sound) (c .pre .x) (c .in-Not .is) (c .in-Const .is)
+returns-in-Const c = search (needs, not-const-way)
 
 pub returns-in-rest-operand : need.returns-in-rest-operand
-returns-in-rest-operand c = not-kept-way _ _ _ (c .pre .sound) (c .pre .x) (c .in-Not .is) (c .in-rest-operand .not-Const)
+returns-in-rest-operand c = search (needs, not-kept-way)
 
 pub returns-in-rest : need.returns-in-rest
-returns-in-rest c = time-way _ _ _ (c .pre .sound) (c .pre .x) (c .in-rest .not-Not)
+returns-in-rest c = search (needs, time-way)
