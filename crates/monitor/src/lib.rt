@@ -8,4 +8,8 @@ pub use monitor::Monitor;
 pub use monitors::LAST_TICK;
 pub use monitors::monitor_decides;
 pub use verdict::Hold;
+pub use verdict::HoldDebug;
+pub use verdict::HoldPartialEq;
 pub use verdict::Verdict;
+pub use verdict::VerdictDebug;
+pub use verdict::VerdictPartialEq;

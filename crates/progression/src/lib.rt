@@ -12,6 +12,8 @@ mod workspaces;
 pub use compact::Compact;
 pub use compacts::MOST;
 pub use compacts::TooMany;
+pub use compacts::TooManyDebug;
+pub use compacts::TooManyPartialEq;
 pub use earliest::earlier_of;
 pub use numbering::number;
 pub use reading::Known;

@@ -4,6 +4,8 @@ mod rule;
 mod rules;
 
 pub use misfit::Misfit;
+pub use misfit::MisfitDebug;
+pub use misfit::MisfitPartialEq;
 pub use rule::Rule;
 pub use rules::RULE_PARTS;
 pub use rules::SIGNALS;
