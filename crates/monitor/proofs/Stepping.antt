@@ -23,7 +23,7 @@ use Rattle.progression.specs.declared.reading.Reading.{Reading as Shown}
 use Rattle.progression.specs.declared.reading.Reading.the-variants.{Open}
 use Rattle.rule.specs.Rules.{all-plain}
 use Rattle.rule.proofs.Ruling.{plain-means, open-part, part-open}
-use Rattle.monitor.specs.Watching.{State, bit, shown, decide, progressed, stepped, step-hold}
+use Rattle.monitor.specs.Monitoring.{State, bit, shown, decide, progressed, stepped, step-hold}
 
 -- The row, once it is filled.
 pub row-is : {Z : Type 0} (v : Vec Shown Z) (ws us ds : List Shown) → length ws ≡ length us → us ≡ vec-items v

@@ -1,2 +1,2 @@
-pub mod Watching
+pub mod Monitoring
 pub mod Monitors

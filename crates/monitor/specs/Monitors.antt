@@ -1,7 +1,7 @@
 -- What a monitor is.
 use Rattle.rule.specs.Ruled.{rule-formula}
 use Rattle.progression.specs.Compacts.{formula-of}
-use Rattle.monitor.specs.Watching.{State}
+use Rattle.monitor.specs.Monitoring.{State}
 use Rattle.monitor.specs.declared.monitor.Monitor.{Monitor}
 
 abbrev pub state-of : Monitor → State

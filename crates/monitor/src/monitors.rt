@@ -2,8 +2,8 @@
 ghost use mathlib.Core.Path.{_≡_};
 ghost use Rattle.std.specs.Vec.{made, refused};
 ghost use Rattle.rule.specs.Ruled.{rule-formula};
-ghost use Rattle.progression.specs.Compacts.{compact-parts, constant, formula-of};
-ghost use Rattle.monitor.specs.Watching.{Monitor-decides, Steps, decide, fresh, verdict-of};
+ghost use Rattle.progression.specs.Compacts.{compact-parts, formula-of};
+ghost use Rattle.monitor.specs.Monitoring.{Monitor-decides, Steps, decide, fresh, verdict-of};
 ghost use Rattle.monitor.specs.Monitors.{state-of};
 use crate::monitor::Monitor;
 use crate::readings::fill;
@@ -82,7 +82,7 @@ impl Monitor {
 
     /// The verdict.
     pub fn verdict(&self) -> Verdict
-        ensures { λ r. ⌜ r ≡ verdict-of (constant (state-of (now (self .entry)) .obligation)) ⌝ }
+        ensures { λ r. ⌜ r ≡ verdict-of (state-of (now (self .entry)) .obligation) ⌝ }
     {
         match self.obligation.value() {
             Some(true) => Verdict::True,
@@ -113,8 +113,8 @@ impl Monitor {
     }
 }
 
-/// After any list of whole readings the obligation is the rule's progression through them, and the deciding tick is the one
-/// whose step first made it constant.
+/// After any calls the obligation is the rule's progression through the accepted readings, the deciding tick is the one whose
+/// step first made it constant, and a verdict is the truth about every endless run that begins with the accepted readings.
 pub fn monitor_decides() -> u8
     ensures { λ _. ⌜ Monitor-decides ⌝ }
 {

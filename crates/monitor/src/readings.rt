@@ -4,7 +4,7 @@ ghost use mathlib.Core.Path.{_≡_};
 ghost use lib.Dec.{leb};
 ghost use lib.ListN.{length, getD};
 ghost use Rattle.progression.specs.declared.reading.Reading.{Reading};
-ghost use Rattle.monitor.specs.Watching.{bit, shown};
+ghost use Rattle.monitor.specs.Monitoring.{bit, shown};
 use progression::Reading;
 
 /// Whether a reading has a bit beyond the signals.

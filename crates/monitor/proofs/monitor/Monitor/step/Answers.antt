@@ -11,7 +11,7 @@ use Rattle.progression.specs.Compacts.{formula-of}
 use Rattle.progression.specs.Readings.{assigned}
 use Rattle.progression.proofs.Compacting.{counted}
 use Rattle.rule.specs.Rules.{all-plain}
-use Rattle.monitor.specs.Watching.{bit, progressed}
+use Rattle.monitor.specs.Monitoring.{bit, progressed}
 use Rattle.monitor.specs.Monitors.{state-of}
 use Rattle.monitor.proofs.Stepping.{row-is, same-step, plain-kept, hold-parts, hold-none, with-obligation, moved}
 use Rattle.monitor.proofs.monitor.Monitor.step.Needs as need

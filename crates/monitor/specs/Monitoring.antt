@@ -10,7 +10,8 @@ use Rattle.std.specs.declared.option.Option.{Option}
 use Rattle.std.specs.declared.option.Option.the-variants.{Some, None}
 use Rattle.std.specs.declared.result.Result.{Result}
 use Rattle.std.specs.declared.result.Result.the-variants.{Ok, Err}
-use Rattle.temporal.specs.Formula.{Formula}
+use Rattle.temporal.specs.Formula.{Formula, Run, Holds}
+use Rattle.temporal.specs.Laws.{Begins}
 use Rattle.temporal.specs.Formula.Formula.{const}
 use Rattle.temporal.specs.Progress.{step, reads, through}
 use Rattle.temporal.specs.Parts.{parts}
@@ -34,11 +35,14 @@ verdict-number False = 0
 verdict-number True = 1
 verdict-number Undecided = 2
 
--- The verdict that an obligation is.
-abbrev pub verdict-of : Option Bool → Verdict
-verdict-of (Some true) = True
-verdict-of (Some false) = False
-verdict-of None = Undecided
+-- The verdict of an obligation: true and false are decided, all else is not.
+abbrev pub as-verdict : Option Bool → Verdict
+as-verdict (Some true) = True
+as-verdict (Some false) = False
+as-verdict None = Undecided
+
+abbrev pub verdict-of : Formula → Verdict
+verdict-of f = as-verdict (constant f)
 
 -- Bit j of a whole reading: signal j is on.
 abbrev pub bit : ℕ → ℕ → Bool
@@ -54,10 +58,10 @@ pub record State : Type 0 where
   pub rule : Formula
   pub obligation : Formula
   pub next : ℕ
-  -- the tick whose step made the obligation true or false first
+  -- the tick whose step first made the obligation constant, or 0 where the rule is so from the start
   pub decided : Option ℕ
 
--- The deciding tick, where the obligation is f once the step of tick t was made.
+-- The deciding tick, where o is the constant that the obligation is, if it is one, once the step of tick t was made.
 abbrev pub decide : Option ℕ → Option Bool → ℕ → Option ℕ
 decide (Some s) o t = Some s
 decide None (Some b) t = Some t
@@ -82,12 +86,33 @@ stepped s w = record {
 -- Why a step is held back.
 abbrev pub step-hold : State → ℕ → Option ℕ
 step-hold s w =
-    first-fit ((15, leb (2 ^ s .signals) w) ∷ (16, ltb 999999 (s .next)) ∷ (18, ltb 256 (length (parts (progressed s w)))) ∷ [])
+    first-fit ((number Reading, leb (2 ^ s .signals) w) ∷ (number Tick, ltb 999999 (s .next)) ∷ (number Parts, ltb 256 (length (parts (progressed s w)))) ∷ [])
 
--- Many steps.
-abbrev pub run : State → List ℕ → State
-run s [] = s
-run s (w ∷ ws) = run (stepped s w) ws
+-- What a step answers, and what the monitor is after it.
+abbrev pub Steps : {A : Type 0} → State → ℕ → State → Result A Hold → Type 0
+Steps s w t (Ok u) = (step-hold s w ≡ None) × (t ≡ stepped s w)
+Steps s w t (Err h) = (step-hold s w ≡ Some (number h)) × (t ≡ s)
+
+-- A call: a step, or nothing where it is held back.
+abbrev pub unless : Option ℕ → State → State → State
+unless None s t = t
+unless (Some n) s t = s
+
+abbrev pub called : State → ℕ → State
+called s w = unless (step-hold s w) s (stepped s w)
+
+-- Many calls, and the readings among them that are accepted.
+abbrev pub calls : State → List ℕ → State
+calls s [] = s
+calls s (w ∷ ws) = calls (called s w) ws
+
+abbrev pub with-accepted : Option ℕ → ℕ → List ℕ → List ℕ
+with-accepted None w ws = w ∷ ws
+with-accepted (Some n) w ws = ws
+
+abbrev pub accepted : State → List ℕ → List ℕ
+accepted s [] = []
+accepted s (w ∷ ws) = with-accepted (step-hold s w) w (accepted (called s w) ws)
 
 -- The tick at which a rule is decided by whole readings: the one whose step first makes it constant, or 0 where it is so from the start.
 abbrev pub Decided-at : Formula → List ℕ → ℕ → Type 0
@@ -96,16 +121,19 @@ Decided-at rule ws t =
     ⊎ ((t < length ws) × ((b : Bool) × (through (map bit (take (suc t) ws)) rule ≡ const b))
     × ((s : ℕ) → s ≤ t → (b : Bool) → through (map bit (take s ws)) rule ≡ const b → ⊥))
 
--- What a monitor knows after many steps.
+-- What a monitor of a rule over n signals is once the readings ws are accepted.
+pub record After (n : ℕ) (rule : Formula) (ws : List ℕ) (m : State) : Type 0 where
+  pub same-signals : m .signals ≡ n
+  pub same-rule : m .rule ≡ rule
+  pub obligation-is : m .obligation ≡ through (map bit ws) rule
+  pub next-is : m .next ≡ length ws
+  pub decided-first : (t : ℕ) → m .decided ≡ Some t → Decided-at rule ws t
+  pub decided-lasts : (t : ℕ) → m .decided ≡ Some t → (b : Bool) × (m .obligation ≡ const b)
+  pub undecided : m .decided ≡ None → (b : Bool) → m .obligation ≡ const b → ⊥
+  pub true-of-all : verdict-of (m .obligation) ≡ True → (r : Run) → Begins r 0 (map bit ws) → Holds r rule 0
+  pub false-of-all : verdict-of (m .obligation) ≡ False → (r : Run) → Begins r 0 (map bit ws) → Holds r rule 0 → ⊥
+
+-- After any calls, accepted or held back.
 abbrev pub Monitor-decides : Type 0
 Monitor-decides =
-    (n : ℕ) (rule : Formula) (ws : List ℕ)
-    → (run (fresh n rule) ws .obligation ≡ through (map bit ws) rule)
-    × (run (fresh n rule) ws .next ≡ length ws)
-    × ((t : ℕ) → run (fresh n rule) ws .decided ≡ Some t → Decided-at rule ws t)
-    × (run (fresh n rule) ws .decided ≡ None → (b : Bool) → through (map bit ws) rule ≡ const b → ⊥)
-
--- What a step answers, and what the monitor is after it.
-abbrev pub Steps : {A : Type 0} → State → ℕ → State → Result A Hold → Type 0
-Steps s w t (Ok u) = (step-hold s w ≡ None) × (t ≡ stepped s w)
-Steps s w t (Err h) = (step-hold s w ≡ Some (number h)) × (t ≡ s)
+    (n : ℕ) (rule : Formula) (ws : List ℕ) → After n rule (accepted (fresh n rule) ws) (calls (fresh n rule) ws)
