@@ -44,15 +44,6 @@ pub fn repeat(monitor: &mut Monitor, reading: u32, times: u32) -> (u32, Option<H
     (times, None)
 }
 
-/// The number of a hold.
-pub fn number(hold: Hold) -> u8 {
-    match hold {
-        Hold::Reading => 15,
-        Hold::Tick => 16,
-        Hold::Parts => 18,
-    }
-}
-
 /// The letter of a verdict.
 pub fn letter(verdict: Verdict) -> &'static str {
     match verdict {

@@ -6,7 +6,6 @@ mod shared;
 use flight::Judged;
 use flight::judge;
 use flight::letter;
-use flight::number;
 use flight::reason;
 use flight::repeat;
 use monitor::Monitor;
@@ -17,7 +16,7 @@ fn print_steps(rt: &LibcRuntime, monitor: &mut Monitor, reading: u32, times: u32
     let (accepted, hold) = repeat(monitor, reading, times);
     print!(rt, "; {accepted} of {times}")?;
     if let Some(held) = hold {
-        let n = number(held);
+        let n = held.number();
         print!(rt, " hold {n}")?;
     }
     let next = monitor.next_tick();

@@ -2,7 +2,6 @@
 mod sample;
 mod show;
 
-use monitor::Hold;
 use monitor::Monitor;
 use monitor::Verdict;
 use parts::Table;
@@ -40,15 +39,6 @@ fn word(verdict: Verdict) -> &'static str {
     }
 }
 
-/// The number of a hold.
-fn number(hold: Hold) -> u8 {
-    match hold {
-        Hold::Reading => 15,
-        Hold::Tick => 16,
-        Hold::Parts => 18,
-    }
-}
-
 /// Prints what is read, as `p on, q off`.
 fn print_reading(rt: &LibcRuntime, signals: u8, reading: u32) -> Result<(), AnyError> {
     for j in 0..signals.min(32) {
@@ -66,7 +56,7 @@ fn print_step(rt: &LibcRuntime, monitor: &mut Monitor, signals: u8, reading: u32
     let tick = monitor.next_tick();
     print!(rt, "  tick {tick}: ")?;
     if let Err(hold) = monitor.step(reading) {
-        let n = number(hold);
+        let n = hold.number();
         println!(rt, "hold {n}")?;
         return Ok(());
     }

@@ -28,13 +28,14 @@ pub shape-is : (ps : List Part) (f : Formula) (s : Shape) → Shapes ps f s → 
 shape-is ps f s h = subst (λ g. Shapes ps g s) (sym (meant-is ps f s h)) h
 
 module _ (ps : List Part) (s : Shape) (sound : Sound ps) where
-  pub interned-at : (i : ℕ) → s ≡ At i → Shapes ps (meant ps s) s → Made 1 ps ps (meant ps s) i
+  pub interned-at : (i : ℕ) → s ≡ At i → Shapes ps (meant ps s) s → Interned ps ps (meant ps s) (Some i)
   interned-at i e h =
       let w : Stands ps (meant ps s) i = subst (Shapes ps (meant ps s)) e h in
-      made-here 1 ps (meant ps s) i sound (w .inside) (w .formula-is)
+      (made-here 1 ps (meant ps s) i sound (w .inside) (w .formula-is), λ k h q. refl)
 
-  pub interned-found : (p : Part) (i : ℕ) → s ≡ Is p → i < length ps → getD ps i blank ≡ p → Made 1 ps ps (meant ps s) i
-  interned-found p i e h q = made-here 1 ps (meant ps s) i sound h (formula-part ps i (sound .ordered) h p q ∙ sym (ap (meant ps) e))
+  pub interned-found : (p : Part) (i : ℕ) → s ≡ Is p → i < length ps → getD ps i blank ≡ p → Interned ps ps (meant ps s) (Some i)
+  interned-found p i e h q =
+      (made-here 1 ps (meant ps s) i sound h (formula-part ps i (sound .ordered) h p q ∙ sym (ap (meant ps) e)), λ k l r. refl)
 
   pub interned-full : (p : Part) → s ≡ Is p → Shapes ps (meant ps s) s → length ps ≡ 768
       → ((k : ℕ) → k < length ps → getD ps k blank ≡ p → ⊥) → Interned ps ps (meant ps s) None
@@ -43,18 +44,23 @@ module _ (ps : List Part) (s : Shape) (sound : Sound ps) where
       (refl, full, λ k l q. absent k l (part-is ps k p sound l (w .below) (q ∙ sym (w .formula-is))))
 
   pub interned-new : (p : Part) (qs : List Part) (n : ℕ) → s ≡ Is p → Shapes ps (meant ps s) s
-      → ((k : ℕ) → k < length ps → getD ps k blank ≡ p → ⊥) → length ps ≡ n → qs ≡ ps ++ p ∷ [] → Made 1 ps qs (meant ps s) n
+      → ((k : ℕ) → k < length ps → getD ps k blank ≡ p → ⊥) → length ps ≡ n → qs ≡ ps ++ p ∷ [] → Interned ps qs (meant ps s) (Some n)
   interned-new p qs n e h absent l q =
       let w : Fits ps (meant ps s) p = subst (Shapes ps (meant ps s)) e h in
       let k = length-push ps p in
-      subst (λ z. Made 1 ps z (meant ps s) n) (sym q) record {
-        grown = grown-push ps p;
-        sound = sound-push ps (meant ps s) p sound w absent;
-        stands = record {
-          inside = omega arith;
-          formula-is = ap (formula (ps ++ p ∷ [])) (sym l) ∙ push-new ps p ∙ w .formula-is;
-        };
-      }
+      let none : (k : ℕ) → k < length ps → formula ps k ≡ meant ps s → qs ≡ ps =
+      λ k h r. absurd (absent k h (part-is ps k p sound h (w .below) (r ∙ sym (w .formula-is)))) in
+      (
+        subst (λ z. Made 1 ps z (meant ps s) n) (sym q) record {
+          grown = grown-push ps p;
+          sound = sound-push ps (meant ps s) p sound w absent;
+          stands = record {
+            inside = omega arith;
+            formula-is = ap (formula (ps ++ p ∷ [])) (sym l) ∙ push-new ps p ∙ w .formula-is;
+          };
+        },
+        none,
+      )
 
 -- The formula that was asked for, where the shape was worked out on the slice of the parts in use.
 pub interned-as : (F : List Part → Formula) (n : ℕ) (xs ys qs : List Part) (s : Shape) (r : Option ℕ) → ys ≡ xs

@@ -138,9 +138,9 @@ pub record Made (n : ℕ) (ps qs : List Part) (f : Formula) (i : ℕ) : Type 0 w
   pub sound : Sound qs
   pub stands : Stands qs f i
 
--- The same, or the table is full and the formula is not in it.
+-- It was made, and where it stood in the table before, the table is as it was; or the table is full and the formula is not in it.
 abbrev pub Interned : List Part → List Part → Formula → Option ℕ → Type 0
-Interned ps qs f (Some i) = Made 1 ps qs f i
+Interned ps qs f (Some i) = Made 1 ps qs f i × ((k : ℕ) → k < length ps → formula ps k ≡ f → qs ≡ ps)
 Interned ps qs f None = (qs ≡ ps) × (length ps ≡ 768) × ((k : ℕ) → k < length ps → formula ps k ≡ f → ⊥)
 
 -- The formula of a part without operands.

@@ -102,13 +102,14 @@ impl Table {
         self.used = n;
     }
 
-    /// Takes the first `count` parts of `out` for its own.
+    /// Takes the first `count` parts of `out` for its own, and leaves it its own places.
     pub fn adopt(&mut self, out: &mut Vec<Part>, count: usize)
         requires long { ⌜ vec-len (now out) ≡ 769 ⌝ }
         requires count { ⌜ count ≤ 768 ⌝ }
         requires sound { ⌜ Sound (in-use count (now out)) ⌝ }
         ensures long { λ _. ⌜ vec-len (now (out .exit)) ≡ 769 ⌝ }
         ensures parts { λ _. ⌜ parts-of (now (self .exit)) ≡ in-use count (now (out .entry)) ⌝ }
+        ensures out { λ _. ⌜ now (out .exit) ≡ now (self .entry) .places ⌝ }
     {
         std::mem::swap(&mut self.places, out);
         self.used = count;

@@ -122,7 +122,7 @@ single (g ∷ (k ∷ fs)) f i l h e = absurd (omega arith)
 
 pub fresh-walked : (b : Bool) (ps qs : List Part) (r : Option ℕ) → ps ≡ [] → Interned ps qs (const b) r → (formulas qs ≡ parts (const b)) × (length qs ≤ 256)
 fresh-walked b ps qs None e (q, full, absent) = absurd (omega (arith, ap length e))
-fresh-walked b ps qs (Some i) e d =
+fresh-walked b ps qs (Some i) e (d, same) =
     let l = d .grown .few in
     let h = d .stands .inside in
     let k = formulas-length qs in

@@ -1,15 +1,16 @@
 -- An obligation is a proper formula, and what follows of closing it.
-use mathlib.Core.Path.{_≡_, refl, sym, _∙_, ap, ap₂}
+use mathlib.Core.Path.{_≡_, refl, sym, _∙_, ap, ap₂, subst}
+use native.Mathlib.Omega.{arith}
 use mathlib.Core.Logic.{_⊎_, inl, inr}
 use mathlib.Core.Bool.{Bool}
-use Prim.Native.Nat.{ℕ, _<_}
+use Prim.Native.Nat.{ℕ, suc, _<_}
 use Rattle.temporal.specs.Formula.{Formula}
 use Rattle.temporal.specs.Formula.Formula.{const, signal, reading, neg, join, next, finally, globally, until}
 use Rattle.temporal.specs.Shorten.{negˢ, joinˢ, nextˢ, finallyˢ, globallyˢ, untilˢ, shorten}
 use Rattle.temporal.specs.Progress.{step, close, Closes}
 use Rattle.temporal.specs.Obligation.{Open, Closed, Clear, Shortened, Obligation, Never, Proper}
-use Rattle.temporal.specs.Laws.{Shortened-is-owed, Obligation-is-proper, Closing-meets-stepping, Closing-leaves-alone}
-use Rattle.temporal.proofs.Proper.{narrowed, open-in, neg-proper, join-proper, next-proper, finally-proper, globally-proper, until-proper, close-same, close-step}
+use Rattle.temporal.specs.Laws.{Shortened-is-owed, Obligation-is-proper, Obligations-last, Closing-meets-stepping, Closing-leaves-alone}
+use Rattle.temporal.proofs.Proper.{widened, open-in, step-proper, neg-proper, join-proper, next-proper, finally-proper, globally-proper, until-proper, close-same, close-step}
 
 -- Any open reading.
 abbrev pub Any : ℕ → ℕ → Type 0
@@ -43,7 +44,7 @@ proper-clear P (finally f) w = never-closed f (w .0)
 proper-clear P (globally f) w = never-closed f (w .0)
 proper-clear P (until f g) w = (never-closed f (w .0), never-closed g (w .1))
 
-closed-clear : (f : Formula) → Closed f → Clear f
+pub closed-clear : (f : Formula) → Closed f → Clear f
 closed-clear (const b) h = tt
 closed-clear (signal p) h = tt
 closed-clear (reading p s) h = tt
@@ -100,3 +101,29 @@ closing-meets-stepping ρ closes σ f s c =
     stays : (τ : ℕ → Formula) {p e : ℕ} (g : Formula) → ((b : Bool) × (g ≡ const b)) ⊎ (g ≡ reading p e) → step τ g ≡ g
     stays τ g (inl w) = ap (step τ) (w .1) ∙ sym (w .1)
     stays τ g (inr q) = ap (step τ) q ∙ sym q
+
+-- A closing keeps a formula proper.
+close-proper : (P : ℕ → ℕ → Type 0) (ρ : ℕ → ℕ → Formula) → ((p e : ℕ) → P p e → Proper P (ρ p e)) → (f : Formula) → Proper P f → Proper P (close ρ f)
+close-proper P ρ h (const b) w = tt
+close-proper P ρ h (signal p) w = tt
+close-proper P ρ h (reading p s) w = h p s w
+close-proper P ρ h (neg f) w = neg-proper P (close ρ f) (close-proper P ρ h f (w .0))
+close-proper P ρ h (join o f g) w =
+    join-proper P o (close ρ f) (close ρ g) (close-proper P ρ h f (w .0)) (close-proper P ρ h g (w .1))
+close-proper P ρ h (next f) w = w
+close-proper P ρ h (finally f) w = w
+close-proper P ρ h (globally f) w = w
+close-proper P ρ h (until f g) w = w
+
+leaf-proper : (P : ℕ → ℕ → Type 0) (p e : ℕ) (g : Formula) → P p e → ((b : Bool) × (g ≡ const b)) ⊎ (g ≡ reading p e) → Proper P g
+leaf-proper P p e g k (inl w) = subst (Proper P) (sym (w .1)) tt
+leaf-proper P p e g k (inr q) = subst (Proper P) (sym q) k
+
+pub obligations-last : Obligations-last
+obligations-last s f o =
+    let w = obligation-is-proper s f .0 o in
+    (λ σ h. obligation-is-proper (suc s) (step σ f) .1
+    (step-proper (λ p e. e < suc s) σ (λ p. leaf-proper (λ q e. e < suc s) p s (σ p) (omega arith) (h p)) f
+    (widened (λ p e. e < s) (λ p e. e < suc s) (λ p e l. (let k : e < suc s = omega arith in k)) f w)),
+    λ ρ closes. obligation-is-proper s (close ρ f) .1
+    (close-proper (λ p e. e < s) ρ (λ p e l. leaf-proper (λ q d. d < s) p e (ρ p e) l (closes p e)) f w))

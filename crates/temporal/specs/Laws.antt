@@ -1,5 +1,5 @@
 -- The laws that shortening, progression and closing obey.
-use mathlib.Core.Bool.{Bool, true, false, cond}
+use mathlib.Core.Bool.{Bool, true, false}
 use mathlib.Core.List.{List, [], _∷_, _++_}
 use mathlib.Core.Logic.{_↔_, _⊎_}
 use mathlib.Core.Path.{_≡_}
@@ -30,6 +30,12 @@ Rebuilding-commutes = (h : Formula → Formula) → Rebuilds h → Commutes h
 abbrev pub Steps-and-closings-commute : Type 0
 Steps-and-closings-commute =
     ((σ : ℕ → Formula) → Commutes (step σ)) × ((ρ : ℕ → ℕ → Formula) → Commutes (close ρ))
+
+-- So does shortening itself: to shorten after a step or a closing is to step or close what is shortened.
+abbrev pub Shortening-commutes : Type 0
+Shortening-commutes =
+    ((σ : ℕ → Formula) (f : Formula) → shorten (step σ f) ≡ step (λ p. shorten (σ p)) (shorten f))
+    × ((ρ : ℕ → ℕ → Formula) (f : Formula) → shorten (close ρ f) ≡ close (λ p s. shorten (ρ p s)) (shorten f))
 
 -- Meaning.
 
@@ -76,12 +82,19 @@ Runs-abound =
 
 -- Obligations.
 
--- A formula with no open reading, once shortened, is an obligation for tick 0; and shortening is done once.
+-- A formula with no open reading, once shortened, is an obligation for tick 0.
 abbrev pub Shortened-is-owed : Type 0
 Shortened-is-owed = (f : Formula) → Closed f → Obligation 0 (shorten f)
 
 abbrev pub Obligation-is-proper : Type 0
 Obligation-is-proper = (s : ℕ) (f : Formula) → Obligation s f ↔ Proper (λ p e. e < s) f
+
+-- A step of tick s, which makes of each signal a constant or its open reading at s, and a closing keep an obligation one.
+abbrev pub Obligations-last : Type 0
+Obligations-last =
+    (s : ℕ) (f : Formula) → Obligation s f
+    → ((σ : ℕ → Formula) → ((p : ℕ) → ((b : Bool) × (σ p ≡ const b)) ⊎ (σ p ≡ reading p s)) → Obligation (suc s) (step σ f))
+    × ((ρ : ℕ → ℕ → Formula) → Closes ρ → Obligation s (close ρ f))
 
 -- Closing after a step is the step with the closed assignment, after closing.
 abbrev pub Closing-meets-stepping : Type 0
@@ -111,7 +124,7 @@ Closing-adds-no-part =
     (ρ : ℕ → ℕ → Formula) → Closes ρ → (f : Formula) → Shortened f → Clear f
     → length (parts (close ρ f)) ≤ length (parts f)
 
--- What a step makes of a part of the rule has only parts of the rule and of `made`, which are two for each part.
+-- What a step makes of a part of f has only parts of f and of `made`, which are two for each part.
 abbrev pub Step-makes-two : Type 0
 Step-makes-two =
     (σ : ℕ → Formula) → ((p : ℕ) (g : Formula) → Part g (σ p) → g ≡ σ p)

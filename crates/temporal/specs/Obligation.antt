@@ -44,10 +44,11 @@ pub record Obligation (s : ℕ) (f : Formula) : Type 0 where
   pub before : (p e : ℕ) → Open p e f → e < s
   pub clear : Clear f
 
--- The same by recursion, for any bound P on the open readings.
+-- No open reading.
 abbrev pub Never : ℕ → ℕ → Type 0
 Never p e = ⊥
 
+-- An obligation by recursion, for any bound P on the open readings.
 abbrev pub Proper : (ℕ → ℕ → Type 0) → Formula → Type 0
 Proper P (const b) = Unit {0}
 Proper P (signal p) = Unit {0}

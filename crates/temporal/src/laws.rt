@@ -16,6 +16,8 @@ ghost use Rattle.temporal.specs.Laws.{Parts-in-order};
 ghost use Rattle.temporal.specs.Laws.{Closing-adds-no-part};
 ghost use Rattle.temporal.specs.Laws.{Step-makes-two};
 ghost use Rattle.temporal.specs.Earliest.{Earliest-is-first};
+ghost use Rattle.temporal.specs.Laws.{Shortening-commutes};
+ghost use Rattle.temporal.specs.Laws.{Obligations-last};
 ghost use Rattle.temporal.specs.Examples.{Worked-examples};
 
 /// What keeps constants and rebuilds not, and, or with the shortening constructors commutes with those constructors.
@@ -25,9 +27,16 @@ pub fn rebuilding_commutes() -> u8
     0
 }
 
-/// A step and a closing do.
+/// A step and a closing commute with the shortening constructors.
 pub fn steps_and_closings_commute() -> u8
     ensures { λ _. ⌜ Steps-and-closings-commute ⌝ }
+{
+    0
+}
+
+/// Shortening commutes with a step and with a closing.
+pub fn shortening_commutes() -> u8
+    ensures { λ _. ⌜ Shortening-commutes ⌝ }
 {
     0
 }
@@ -84,6 +93,13 @@ pub fn shortened_is_owed() -> u8
 /// An obligation, said by recursion.
 pub fn obligation_is_proper() -> u8
     ensures { λ _. ⌜ Obligation-is-proper ⌝ }
+{
+    0
+}
+
+/// A step and a closing keep an obligation one.
+pub fn obligations_last() -> u8
+    ensures { λ _. ⌜ Obligations-last ⌝ }
 {
     0
 }
