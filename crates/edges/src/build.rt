@@ -7,7 +7,11 @@ use std::alloc::Global;
 
 /// A sign over a part of the table.
 pub fn unary(table: &mut Table, sign: Unary, x: u16) -> Option<u16> {
-    if (x as usize) < table.used() { table.unary(sign, x) } else { None }
+    if (x as usize) < table.used() {
+        table.unary(sign, x)
+    } else {
+        None
+    }
 }
 
 /// A sign over two parts of the table.

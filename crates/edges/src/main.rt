@@ -12,7 +12,12 @@ use monitor::Monitor;
 use std::error::AnyError;
 
 /// Prints what became of one reading, given so many times.
-fn print_steps(rt: &LibcRuntime, monitor: &mut Monitor, reading: u32, times: u32) -> Result<(), AnyError> {
+fn print_steps(
+    rt: &LibcRuntime,
+    monitor: &mut Monitor,
+    reading: u32,
+    times: u32,
+) -> Result<(), AnyError> {
     let (accepted, hold) = repeat(monitor, reading, times);
     print!(rt, "; {accepted} of {times}")?;
     if let Some(held) = hold {

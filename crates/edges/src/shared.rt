@@ -37,7 +37,12 @@ fn chain(table: &mut Table, length: u16) -> Option<u16> {
 }
 
 /// A table's part as a formula of its own.
-fn formula_at(heap: Global, table: &Table, at: Option<u16>, space: &mut Workspace) -> Result<Compact, AllocError> {
+fn formula_at(
+    heap: Global,
+    table: &Table,
+    at: Option<u16>,
+    space: &mut Workspace,
+) -> Result<Compact, AllocError> {
     let mut formula = Compact::new(heap)?;
     if let Some(top) = at {
         if (top as usize) < table.used() {
@@ -48,7 +53,13 @@ fn formula_at(heap: Global, table: &Table, at: Option<u16>, space: &mut Workspac
 }
 
 /// Prints what a step or a closing left.
-fn print_formula(rt: &LibcRuntime, what: &str, formula: &Compact, done: Result<(), TooMany>, space: &mut Workspace) -> Result<(), AnyError> {
+fn print_formula(
+    rt: &LibcRuntime,
+    what: &str,
+    formula: &Compact,
+    done: Result<(), TooMany>,
+    space: &mut Workspace,
+) -> Result<(), AnyError> {
     let count = formula.count();
     let verdict = match formula.value() {
         Some(true) => "T",
@@ -57,7 +68,10 @@ fn print_formula(rt: &LibcRuntime, what: &str, formula: &Compact, done: Result<(
     };
     let held = if done.is_ok() { "" } else { ", too many" };
     match formula.earliest_open(space) {
-        Some(tick) => println!(rt, "{what}: {count} parts, {verdict}, open from {tick}{held}")?,
+        Some(tick) => println!(
+            rt,
+            "{what}: {count} parts, {verdict}, open from {tick}{held}"
+        )?,
         None => println!(rt, "{what}: {count} parts, {verdict}{held}")?,
     }
     Ok(())
@@ -74,8 +88,20 @@ fn print_chain(rt: &LibcRuntime, signals: &[Reading], what: &str) -> Result<(), 
 }
 
 /// Closes what q was at a tick, as on.
-fn print_closed(rt: &LibcRuntime, formula: &mut Compact, tick: u32, what: &str, space: &mut Workspace) -> Result<(), AnyError> {
-    let done = formula.close(&Row { tick, signals: &[Reading::Open, Reading::On] }, space);
+fn print_closed(
+    rt: &LibcRuntime,
+    formula: &mut Compact,
+    tick: u32,
+    what: &str,
+    space: &mut Workspace,
+) -> Result<(), AnyError> {
+    let done = formula.close(
+        &Row {
+            tick,
+            signals: &[Reading::Open, Reading::On],
+        },
+        space,
+    );
     print_formula(rt, what, formula, done, space)
 }
 
@@ -86,7 +112,13 @@ fn print_gate(rt: &LibcRuntime) -> Result<(), AnyError> {
     let mut space = Workspace::new(heap)?;
     let top = make(heap, &mut table, b"q!p|G");
     let mut formula = formula_at(heap, &table, top, &mut space)?;
-    let done = formula.step(&Row { tick: 1, signals: &[Reading::Off] }, &mut space);
+    let done = formula.step(
+        &Row {
+            tick: 1,
+            signals: &[Reading::Off],
+        },
+        &mut space,
+    );
     print_formula(rt, "stepped", &formula, done, &mut space)?;
     print_closed(rt, &mut formula, 2, "closed at 2", &mut space)?;
     print_closed(rt, &mut formula, 1, "closed at 1", &mut space)

@@ -52,7 +52,12 @@ fn print_reading(rt: &LibcRuntime, signals: u8, reading: u32) -> Result<(), AnyE
 }
 
 /// Prints what the monitor makes of one reading.
-fn print_step(rt: &LibcRuntime, monitor: &mut Monitor, signals: u8, reading: u32) -> Result<(), AnyError> {
+fn print_step(
+    rt: &LibcRuntime,
+    monitor: &mut Monitor,
+    signals: u8,
+    reading: u32,
+) -> Result<(), AnyError> {
     let tick = monitor.next_tick();
     print!(rt, "  tick {tick}: ")?;
     if let Err(hold) = monitor.step(reading) {

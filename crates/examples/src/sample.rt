@@ -71,7 +71,11 @@ impl Sample {
 
 /// A sign over a part of the table.
 fn unary(table: &mut Table, sign: Unary, x: u16) -> Option<u16> {
-    if (x as usize) < table.used() { table.unary(sign, x) } else { None }
+    if (x as usize) < table.used() {
+        table.unary(sign, x)
+    } else {
+        None
+    }
 }
 
 /// A sign over two parts of the table.

@@ -49,8 +49,7 @@ module _ (ps : List Part) (s : Shape) (sound : Sound ps) where
       let w : Fits ps (meant ps s) p = subst (Shapes ps (meant ps s)) e h in
       let k = length-push ps p in
       let none : (k : ℕ) → k < length ps → formula ps k ≡ meant ps s → qs ≡ ps =
-      λ k h r. absurd (absent k h (part-is ps k p sound h (w .below) (r ∙ sym (w .formula-is)))) in
-      (
+      λ k h r. absurd (absent k h (part-is ps k p sound h (w .below) (r ∙ sym (w .formula-is)))) in (
         subst (λ z. Made 1 ps z (meant ps s) n) (sym q) record {
           grown = grown-push ps p;
           sound = sound-push ps (meant ps s) p sound w absent;

@@ -2,3 +2,4 @@ pub mod Passing
 pub mod Ticks
 pub mod Numbers
 pub mod Compacting
+pub mod Truth

@@ -20,4 +20,5 @@ pub use reading::Known;
 pub use reading::Reading;
 pub use reading::Row;
 pub use reading::RowKnown;
+pub use reading::readings_keep_meaning;
 pub use workspace::Workspace;

@@ -6,7 +6,7 @@ ghost use lib.Dec.{eqb};
 ghost use denote.Ref.{now};
 ghost use Rattle.std.specs.declared.option.Option.{Option as Maybe};
 ghost use Rattle.std.specs.declared.option.Option.the-variants.{None};
-ghost use Rattle.progression.specs.Readings.{known-at};
+ghost use Rattle.progression.specs.Readings.{Readings-keep-meaning, known-at};
 
 /// A signal at a tick: not known, which leaves it open, or off, or on.
 #[derive(Clone, Copy, PartialEq, Eq)]
@@ -59,4 +59,11 @@ pub impl Known for Row<'_> as RowKnown {
             None
         }
     }
+}
+
+/// A step by a row and a closing by what is known keep the meaning, on every run of which they are true.
+pub fn readings_keep_meaning() -> u8
+    ensures { λ _. ⌜ Readings-keep-meaning ⌝ }
+{
+    0
 }

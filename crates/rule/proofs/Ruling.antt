@@ -1,5 +1,5 @@
 -- The laws of rules.
-use Prim.Native.Nat.{ℕ, zero, suc, _+_, _<_, _≤_}
+use Prim.Native.Nat.{ℕ, zero, suc, _+_, _-_, _<_, _≤_}
 use mathlib.Core.Path.{_≡_, refl, sym, ap, subst, _∙_}
 use mathlib.Core.Bool.{Bool, true, false, cond, false≢true}
 use mathlib.Core.List.{List, [], _∷_, _++_}
@@ -12,16 +12,20 @@ use Rattle.std.proofs.shelf.Lists.{take-more, take-all}
 use Rattle.std.specs.declared.option.Option.the-variants.{Some, None}
 use Rattle.temporal.specs.Formula.{Formula}
 use Rattle.temporal.specs.Formula.Formula.{const, signal, reading, neg, join, next, finally, globally, until}
-use Rattle.temporal.specs.Obligation.{Open as OpenIn, Closed}
+use Rattle.temporal.specs.Obligation.{Open as OpenIn, Closed, Obligation}
 use Rattle.temporal.specs.Parts.{In, Part as PartOf, parts}
-use Rattle.parts.specs.Places.{node, place, formula, formulas, blank, Sound}
+use Rattle.parts.specs.Places.{node, place, formula, formulas, blank, short, Sound}
 use Rattle.rule.specs.Rules.{plain, plain-part, all-plain, misfit, Plain-means}
 use Rattle.rule.specs.declared.misfit.Misfit.the-variants.{Signals, Parts, Leaf}
 use Rattle.parts.specs.declared.part.Unary.the-variants.{Not, Next, Finally, Globally}
 use Rattle.parts.specs.declared.part.Binary.the-variants.{Join, Until}
 use Rattle.parts.specs.declared.part.Part.{Part}
 use Rattle.parts.specs.declared.part.Part.the-variants.{Const, Signal, Open, One, Two}
-use Rattle.parts.proofs.Places.{formulas-length, formula-node}
+use Rattle.parts.proofs.Places.{formulas-length, formula-node, short-is}
+use Rattle.progression.specs.Compacts.{compact-parts, formula-of}
+use Rattle.progression.specs.declared.compact.Compact.{Compact}
+use Rattle.progression.proofs.Compacting.{top-formula}
+use Rattle.temporal.proofs.Owed.{closed-clear}
 use Rattle.temporal.proofs.Parts.{listed, unlisted}
 use Rattle.temporal.proofs.Order.{finish-new}
 
@@ -154,3 +158,15 @@ plain-means n f = (
     by-kind (finally g) k w = refl
     by-kind (globally g) k w = refl
     by-kind (until g h) k w = refl
+
+-- A rule is an obligation for tick 0.
+pub rule-owed : (f : Compact) (n : ℕ) → all-plain n (parts (formula-of f)) ≡ true → Obligation 0 (formula-of f)
+rule-owed f n h =
+    let closed = plain-means n (formula-of f) .0 h .0 in
+    let k = length (compact-parts f) in
+    let l : k - 1 < length (compact-parts f) = (let s = f .some in omega arith) in
+    record {
+      shortened = short-is (formula-of f) (subst (λ g. short g ≡ true) (top-formula f k refl) (f .table .short (k - 1) l));
+      before = λ p e j. absurd (closed p e j);
+      clear = closed-clear (formula-of f) closed;
+    }

@@ -1,4 +1,4 @@
-//! A rule: a formula that a station can watch.
+//! A rule: a formula that is fit to be monitored over so many signals.
 mod misfit;
 mod rule;
 mod rules;

@@ -4,7 +4,9 @@ ghost use mathlib.Core.Path.{_≡_};
 ghost use lib.ListN.{length};
 ghost use Rattle.std.specs.Vec.{made};
 ghost use Rattle.temporal.specs.Formula.{never};
-ghost use Rattle.parts.specs.Places.{Sound, formula, formulas, node};
+ghost use Rattle.temporal.specs.Obligation.{Obligation};
+ghost use Rattle.parts.specs.Places.{Sound, formula, formulas};
+ghost use Rattle.progression.specs.Compacts.{formula-of};
 ghost use Rattle.parts.specs.Tables.{parts-of};
 ghost use Rattle.rule.specs.Rules.{Plain-means, all-plain, plain-part};
 ghost use Rattle.rule.specs.Ruled.{Ruled, rule-formula};
@@ -67,9 +69,10 @@ impl Rule {
         self.signals
     }
 
-    /// Its formula.
+    /// Its formula, an obligation for tick 0.
     pub fn formula(&self) -> &Compact
-        ensures { λ r. ⌜ now r ≡ now (self .entry) .formula ⌝ }
+        ensures formula { λ r. ⌜ now r ≡ now (self .entry) .formula ⌝ }
+        ensures owed { λ r. ⌜ Obligation 0 (formula-of (now r)) ⌝ }
     {
         &self.formula
     }

@@ -121,9 +121,10 @@ leaf-proper P p e g k (inr q) = subst (Proper P) (sym q) k
 
 pub obligations-last : Obligations-last
 obligations-last s f o =
-    let w = obligation-is-proper s f .0 o in
-    (λ σ h. obligation-is-proper (suc s) (step σ f) .1
-    (step-proper (λ p e. e < suc s) σ (λ p. leaf-proper (λ q e. e < suc s) p s (σ p) (omega arith) (h p)) f
-    (widened (λ p e. e < s) (λ p e. e < suc s) (λ p e l. (let k : e < suc s = omega arith in k)) f w)),
-    λ ρ closes. obligation-is-proper s (close ρ f) .1
-    (close-proper (λ p e. e < s) ρ (λ p e l. leaf-proper (λ q d. d < s) p e (ρ p e) l (closes p e)) f w))
+    let w = obligation-is-proper s f .0 o in (
+      λ σ h. obligation-is-proper (suc s) (step σ f) .1
+          (step-proper (λ p e. e < suc s) σ (λ p. leaf-proper (λ q e. e < suc s) p s (σ p) (omega arith) (h p)) f
+          (widened (λ p e. e < s) (λ p e. e < suc s) (λ p e l. (let k : e < suc s = omega arith in k)) f w)),
+      λ ρ closes. obligation-is-proper s (close ρ f) .1
+          (close-proper (λ p e. e < s) ρ (λ p e l. leaf-proper (λ q d. d < s) p e (ρ p e) l (closes p e)) f w),
+    )
