@@ -1,10 +1,10 @@
 //! A rule and the readings that are given to its monitor.
 use crate::build::make;
+use compact::Workspace;
 use monitor::Hold;
 use monitor::Monitor;
 use monitor::Verdict;
 use parts::Table;
-use progression::Workspace;
 use rule::Misfit;
 use rule::Rule;
 use std::alloc::AllocError;

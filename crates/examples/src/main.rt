@@ -2,10 +2,10 @@
 mod sample;
 mod show;
 
+use compact::Workspace;
 use monitor::Monitor;
 use monitor::Verdict;
 use parts::Table;
-use progression::Workspace;
 use rule::Rule;
 use sample::Sample;
 use show::name;

@@ -1,12 +1,12 @@
 //! Formulas as a sheet writes them, with no more brackets than reading back needs.
 ghost use Prim.Native.Nat.{_<_};
 ghost use lib.ListN.{length};
-ghost use Rattle.progression.specs.Compacts.{compact-parts};
+ghost use Rattle.compact.specs.Compacts.{compact-parts};
+use compact::Compact;
 use parts::Binary;
 use parts::Junction;
 use parts::Part;
 use parts::Unary;
-use progression::Compact;
 use std::alloc::AllocError;
 use std::alloc::Global;
 

@@ -13,7 +13,7 @@ use Rattle.temporal.specs.Formula.Formula.{const, signal, reading, neg, join, n
 use Rattle.temporal.specs.Progress.{step, reads, through}
 use Rattle.temporal.proofs.Meaning.{verdict-of-every-run}
 use Rattle.monitor.specs.declared.verdict.Verdict.the-variants.{False, True}
-use Rattle.progression.specs.Compacts.{constant}
+use Rattle.compact.specs.Compacts.{constant}
 use Rattle.monitor.specs.Monitoring.{State, bit, decide, fresh, progressed, stepped, step-hold, unless, called, calls, with-accepted, accepted, as-verdict, verdict-of, Decided-at, After, Monitor-decides}
 
 some≢none : {A : Type 0} {x : A} → Some x ≡ None → ⊥

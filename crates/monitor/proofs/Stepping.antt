@@ -18,7 +18,7 @@ use Rattle.temporal.specs.Progress.{step, reads}
 use Rattle.temporal.specs.Parts.{Part, parts}
 use Rattle.temporal.proofs.Names.{Bare, step-bare, step-agree}
 use Rattle.progression.specs.Readings.{assigned, reading-or, value}
-use Rattle.progression.specs.Compacts.{constant}
+use Rattle.compact.specs.Compacts.{constant}
 use Rattle.progression.specs.declared.reading.Reading.{Reading as Shown}
 use Rattle.progression.specs.declared.reading.Reading.the-variants.{Open}
 use Rattle.rule.specs.Rules.{all-plain}

@@ -16,7 +16,7 @@ use Rattle.temporal.specs.Formula.Formula.{const}
 use Rattle.temporal.specs.Progress.{step, reads, through}
 use Rattle.temporal.specs.Parts.{parts}
 use Rattle.holds.specs.Order.{first-fit}
-use Rattle.progression.specs.Compacts.{constant}
+use Rattle.compact.specs.Compacts.{constant}
 use Rattle.progression.specs.declared.reading.Reading.{Reading as Shown}
 use Rattle.progression.specs.declared.reading.Reading.the-variants.{On, Off}
 use Rattle.monitor.specs.declared.verdict.Verdict.{Verdict}

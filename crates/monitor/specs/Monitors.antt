@@ -1,6 +1,6 @@
 -- What a monitor is.
 use Rattle.rule.specs.Ruled.{rule-formula}
-use Rattle.progression.specs.Compacts.{formula-of}
+use Rattle.compact.specs.Compacts.{formula-of}
 use Rattle.monitor.specs.Monitoring.{State}
 use Rattle.monitor.specs.declared.monitor.Monitor.{Monitor}
 

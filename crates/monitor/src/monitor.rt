@@ -4,11 +4,11 @@ ghost use mathlib.Core.Path.{_≡_};
 ghost use mathlib.Core.Bool.{true};
 ghost use Rattle.std.specs.Of.Vec.{vec-len};
 ghost use Rattle.temporal.specs.Parts.{parts};
-ghost use Rattle.progression.specs.Compacts.{formula-of};
+ghost use Rattle.compact.specs.Compacts.{formula-of};
 ghost use Rattle.rule.specs.Rules.{all-plain};
-use progression::Compact;
+use compact::Compact;
+use compact::Workspace;
 use progression::Reading;
-use progression::Workspace;
 use rule::Rule;
 
 /// It sees all signals: the rule, the obligation reached, the next tick and the tick that decided.

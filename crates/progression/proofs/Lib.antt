@@ -1,5 +1,2 @@
 pub mod Passing
-pub mod Ticks
-pub mod Numbers
-pub mod Compacting
 pub mod Truth

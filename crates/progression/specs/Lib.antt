@@ -1,4 +1,2 @@
 pub mod Passes
 pub mod Readings
-pub mod Numbered
-pub mod Compacts

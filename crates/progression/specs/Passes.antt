@@ -1,14 +1,10 @@
 -- What a pass over the parts of a table has made so far.
 use Prim.Native.Nat.{ℕ, _<_}
 use mathlib.Core.List.{List}
-use mathlib.Core.Path.{_≡_}
 use lib.ListN.{getD}
-use Rattle.std.specs.declared.option.Option.{Option}
-use Rattle.std.specs.declared.option.Option.the-variants.{None}
 use Rattle.temporal.specs.Formula.{Formula}
 use Rattle.temporal.specs.Formula.Op.{and, or}
 use Rattle.temporal.specs.Shorten.{negˢ, joinˢ}
-use Rattle.temporal.specs.Earliest.{earliest}
 use Rattle.parts.specs.Places.{op, formula, Stands}
 use Rattle.parts.specs.declared.part.Unary.{Unary}
 use Rattle.parts.specs.declared.part.Unary.the-variants.{Not, Next, Finally, Globally}
@@ -30,7 +26,3 @@ stepped-one Globally whole a x = joinˢ and x whole
 abbrev pub stepped-two : Binary → Formula → Formula → Formula → Formula
 stepped-two (Join o) whole x y = joinˢ (op o) x y
 stepped-two Until whole x y = joinˢ or y (joinˢ and x whole)
-
--- The earliest open ticks of the first n parts.
-abbrev pub Ticked : List Part → List (Option ℕ) → ℕ → Type 0
-Ticked ps ticks n = (k : ℕ) → k < n → getD ticks k None ≡ earliest (formula ps k)

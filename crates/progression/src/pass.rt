@@ -9,7 +9,7 @@ use crate::rewrite::Rewrite;
 use parts::Part;
 
 /// Rewrites every part in use, operands before their users; `images` then has the place of what became of each.
-pub fn pass<R: Rewrite>(places: &mut Vec<Part>, used: &mut usize, by: &R, images: &mut [u16])
+pub fn rewrite_all<R: Rewrite>(places: &mut Vec<Part>, used: &mut usize, by: &R, images: &mut [u16])
     requires long { ⌜ vec-len (now places) ≡ 769 ⌝ }
     requires room { ⌜ now used ≤ 256 ⌝ }
     requires sound { ⌜ Sound (in-use (now used) (now places)) ⌝ }

@@ -22,9 +22,9 @@ use Rattle.parts.specs.declared.part.Binary.the-variants.{Join, Until}
 use Rattle.parts.specs.declared.part.Part.{Part}
 use Rattle.parts.specs.declared.part.Part.the-variants.{Const, Signal, Open, One, Two}
 use Rattle.parts.proofs.Places.{formulas-length, formula-node, short-is}
-use Rattle.progression.specs.Compacts.{compact-parts, formula-of}
-use Rattle.progression.specs.declared.compact.Compact.{Compact}
-use Rattle.progression.proofs.Compacting.{top-formula}
+use Rattle.compact.specs.Compacts.{compact-parts, formula-of}
+use Rattle.compact.specs.declared.compact.Compact.{Compact}
+use Rattle.compact.proofs.Compacting.{top-formula}
 use Rattle.temporal.proofs.Owed.{closed-clear}
 use Rattle.temporal.proofs.Parts.{listed, unlisted}
 use Rattle.temporal.proofs.Order.{finish-new}

@@ -5,7 +5,7 @@ use Rattle.std.specs.declared.option.Option.the-variants.{Some, None}
 use Rattle.std.specs.declared.result.Result.{Result}
 use Rattle.std.specs.declared.result.Result.the-variants.{Ok, Err}
 use Rattle.temporal.specs.Formula.{Formula}
-use Rattle.progression.specs.Compacts.{formula-of}
+use Rattle.compact.specs.Compacts.{formula-of}
 use Rattle.rule.specs.Rules.{misfit}
 use Rattle.rule.specs.declared.misfit.Misfit.{Misfit}
 use Rattle.rule.specs.declared.rule.Rule.{Rule}

@@ -4,9 +4,9 @@ ghost use mathlib.Core.Path.{_≡_};
 ghost use mathlib.Core.Bool.{true};
 ghost use lib.ListN.{length};
 ghost use Rattle.temporal.specs.Parts.{parts};
-ghost use Rattle.progression.specs.Compacts.{formula-of};
+ghost use Rattle.compact.specs.Compacts.{formula-of};
 ghost use Rattle.rule.specs.Rules.{all-plain};
-use progression::Compact;
+use compact::Compact;
 
 /// A shortened formula without open readings, of at most 64 parts, that names only signals below their number, at most 32.
 #[derive(Drop)]

@@ -7,9 +7,9 @@ use lib.ListN.{length}
 use Rattle.temporal.specs.Parts.{parts, final}
 use Rattle.temporal.specs.Progress.{step}
 use Rattle.parts.specs.Places.{formulas}
-use Rattle.progression.specs.Compacts.{formula-of}
+use Rattle.compact.specs.Compacts.{formula-of}
 use Rattle.progression.specs.Readings.{assigned}
-use Rattle.progression.proofs.Compacting.{counted}
+use Rattle.compact.proofs.Compacting.{counted}
 use Rattle.rule.specs.Rules.{all-plain}
 use Rattle.monitor.specs.Monitoring.{bit, progressed}
 use Rattle.monitor.specs.Monitors.{state-of}

@@ -10,7 +10,7 @@ use Rattle.parts.specs.Tables.{parts-of}
 use Rattle.parts.proofs.Places.{formulas-length}
 use Rattle.parts.proofs.Interned.{front}
 use Rattle.parts.proofs.Making.{used-length}
-use Rattle.progression.proofs.Compacting.{adopted}
+use Rattle.compact.proofs.Compacting.{adopted}
 use Rattle.rule.proofs.Ruling.{misfit-parts, misfit-leaf, misfit-none}
 use Rattle.rule.proofs.rule.Rule.become_part.Needs as need
 

@@ -1,0 +1,3 @@
+pub mod Numbered
+pub mod Compacts
+pub mod Ticks

@@ -1,5 +1,0 @@
-use Rattle.progression.specs.Passes.{Ticked}
-use Rattle.progression.proofs.earliest.earliest_ticks.Given as given
-
-abbrev pub Inv-loop-i : given.InvT-loop-i
-Inv-loop-i l = Ticked (l .parts) (l .ticks) (l .i)
