@@ -1,7 +1,7 @@
 //! The earliest open tick.
-ghost use Prim.Native.Nat.{ℕ, _<_, _≤_};
+ghost use Prim.Native.Nat.{_<_, _≤_};
 ghost use mathlib.Core.Path.{_≡_};
-ghost use lib.ListN.{length, getD};
+ghost use lib.ListN.{length};
 ghost use Rattle.std.specs.declared.option.Option.the-variants.{None};
 ghost use Rattle.temporal.specs.Earliest.{earlier, earliest};
 ghost use Rattle.parts.specs.Places.{Sound, blank, formula};
@@ -40,7 +40,7 @@ fn tick_of(parts: &[Part], at: usize, ticks: &[Option<u32>]) -> Option<u32>
 }
 
 /// The earliest open ticks of all parts.
-pub fn earliest_ticks(parts: &[Part], ticks: &mut [Option<u32>])
+pub(crate) fn earliest_ticks(parts: &[Part], ticks: &mut [Option<u32>])
     requires sound { ⌜ Sound (now parts) ⌝ }
     requires room { ⌜ length (now parts) ≤ length (now ticks) ⌝ }
     ensures { λ _. ⌜ Ticked (now (parts .entry)) (now (ticks .exit)) (length (now (parts .entry))) ⌝ }

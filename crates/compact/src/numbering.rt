@@ -33,7 +33,7 @@ fn write(at: u16, part: Part, numbers: &mut [u16], out: &mut Vec<Part>, count: &
 }
 
 /// Writes what the part at `at` needs and is not written yet, left before right, and then the part; answers its number.
-pub fn walk(
+pub(crate) fn walk(
     parts: &[Part],
     at: u16,
     numbers: &mut [u16],
@@ -73,7 +73,7 @@ pub fn walk(
 }
 
 /// Takes all numbers back.
-pub fn forget(numbers: &mut [u16])
+pub(crate) fn forget(numbers: &mut [u16])
     ensures { λ _. ⌜ ((k : ℕ) → k < length (now (numbers .exit)) → getD (now (numbers .exit)) k 0 ≡ 65535) ⌝ }
 {
     for number in numbers.iter_mut() {

@@ -6,7 +6,7 @@ use parts::Unary;
 use std::alloc::Global;
 
 /// A sign over a part of the table.
-pub fn unary(table: &mut Table, sign: Unary, x: u16) -> Option<u16> {
+pub(crate) fn unary(table: &mut Table, sign: Unary, x: u16) -> Option<u16> {
     if (x as usize) < table.used() {
         table.unary(sign, x)
     } else {
@@ -15,7 +15,7 @@ pub fn unary(table: &mut Table, sign: Unary, x: u16) -> Option<u16> {
 }
 
 /// A sign over two parts of the table.
-pub fn binary(table: &mut Table, sign: Binary, x: u16, y: u16) -> Option<u16> {
+pub(crate) fn binary(table: &mut Table, sign: Binary, x: u16, y: u16) -> Option<u16> {
     if (x as usize) < table.used() && (y as usize) < table.used() {
         table.binary(sign, x, y)
     } else {
@@ -51,7 +51,7 @@ fn make_one(table: &mut Table, stack: &mut Vec<u16>, sign: u8) -> Option<u16> {
 }
 
 /// The place of a formula.
-pub fn make(heap: Global, table: &mut Table, text: &[u8]) -> Option<u16> {
+pub(crate) fn make(heap: Global, table: &mut Table, text: &[u8]) -> Option<u16> {
     let mut stack = Vec::new(heap);
     for sign in text {
         let made = make_one(table, &mut stack, *sign)?;

@@ -1,7 +1,6 @@
 //! A rule and the readings that are given to its monitor.
 use crate::build::make;
 use compact::Workspace;
-use monitor::Hold;
 use monitor::Monitor;
 use monitor::Verdict;
 use parts::Table;
@@ -13,39 +12,38 @@ use std::alloc::Global;
 /// What a formula comes to.
 pub enum Judged {
     Ready(Monitor),
-    Unfit(Misfit),
-    Unread,
+    Unfit(&'static str),
 }
 
 /// A monitor of the formula over so many signals, if that is a rule.
-pub fn judge(heap: Global, text: &[u8], signals: u8) -> Result<Judged, AllocError> {
+pub(crate) fn judge(heap: Global, text: &[u8], signals: u8) -> Result<Judged, AllocError> {
     let mut table = Table::new(heap)?;
     let mut space = Workspace::new(heap)?;
     let mut rule = Rule::new(heap)?;
     let Some(top) = make(heap, &mut table, text) else {
-        return Ok(Judged::Unread);
+        return Ok(Judged::Unfit("no formula"));
     };
     if (top as usize) >= table.used() {
-        return Ok(Judged::Unread);
+        return Ok(Judged::Unfit("no formula"));
     }
     if let Err(misfit) = rule.become_part(&table, top, signals, &mut space) {
-        return Ok(Judged::Unfit(misfit));
+        return Ok(Judged::Unfit(reason(misfit)));
     }
     Ok(Judged::Ready(Monitor::new(heap, &rule)?))
 }
 
-/// Gives the same reading so many times, or until it is held back; answers how often it was accepted, and the hold.
-pub fn repeat(monitor: &mut Monitor, reading: u32, times: u32) -> (u32, Option<Hold>) {
+/// Gives the same reading so many times, or until it is held back; answers how often it was accepted, and the hold's number or 0.
+pub(crate) fn repeat(monitor: &mut Monitor, reading: u32, times: u32) -> (u32, u8) {
     for i in 0..times {
         if let Err(hold) = monitor.step(reading) {
-            return (i, Some(hold));
+            return (i, hold.number());
         }
     }
-    (times, None)
+    (times, 0)
 }
 
 /// The letter of a verdict.
-pub fn letter(verdict: Verdict) -> &'static str {
+pub(crate) fn letter(verdict: Verdict) -> &'static str {
     match verdict {
         Verdict::True => "T",
         Verdict::False => "F",
@@ -54,10 +52,10 @@ pub fn letter(verdict: Verdict) -> &'static str {
 }
 
 /// Why there is no rule.
-pub fn reason(misfit: Misfit) -> &'static str {
+fn reason(misfit: Misfit) -> &'static str {
     match misfit {
-        Misfit::Signals => "over 32 signals",
-        Misfit::Parts => "over 64 parts",
-        Misfit::Leaf => "an open reading or an unknown signal",
+        Misfit::Signals => "over 32 signals, no rule",
+        Misfit::Parts => "over 64 parts, no rule",
+        Misfit::Leaf => "an open reading or an unknown signal, no rule",
     }
 }

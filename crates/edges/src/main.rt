@@ -6,10 +6,19 @@ mod shared;
 use flight::Judged;
 use flight::judge;
 use flight::letter;
-use flight::reason;
 use flight::repeat;
 use monitor::Monitor;
+use std::alloc::AllocError;
+use std::alloc::Global;
 use std::error::AnyError;
+
+/// The deciding tick in words.
+fn since(heap: Global, tick: Option<u32>) -> Result<String, AllocError> {
+    match tick {
+        Some(t) => format!(heap, "since {t}"),
+        None => String::from_str(heap, "open"),
+    }
+}
 
 /// Prints what became of one reading, given so many times.
 fn print_steps(
@@ -18,34 +27,27 @@ fn print_steps(
     reading: u32,
     times: u32,
 ) -> Result<(), AnyError> {
-    let (accepted, hold) = repeat(monitor, reading, times);
-    print!(rt, "; {accepted} of {times}")?;
-    if let Some(held) = hold {
-        let n = held.number();
-        print!(rt, " hold {n}")?;
-    }
+    let (accepted, held) = repeat(monitor, reading, times);
     let next = monitor.next_tick();
     let count = monitor.obligation().count();
     let verdict = letter(monitor.verdict());
-    print!(rt, ", next {next}, {count} parts, {verdict}")?;
-    if let Some(tick) = monitor.deciding_tick() {
-        print!(rt, " at {tick}")?;
-    }
+    let when = since(rt.alloc(), monitor.deciding_tick())?;
+    println!(
+        rt,
+        "  {reading}: {accepted} of {times}, hold {held}, next {next}, {count} parts, {verdict} {when}"
+    )?;
     Ok(())
 }
 
-/// Prints the steps of one line: pairs of a reading and how often it is given.
+/// Prints the steps of one line.
 fn print_flight(rt: &LibcRuntime, monitor: &mut Monitor, words: &[u32]) -> Result<(), AnyError> {
-    let count = monitor.obligation().count();
-    let verdict = letter(monitor.verdict());
-    print!(rt, ": {count} parts, {verdict}")?;
     for pair in words.chunks_exact(2) {
         print_steps(rt, monitor, pair[0], pair[1])?;
     }
     Ok(())
 }
 
-/// Prints one line: a formula, how many signals, and the readings.
+/// Prints one line: a formula, how many signals, and pairs of a reading and how often it is given.
 fn print_line(rt: &LibcRuntime, line: &str) -> Result<(), AnyError> {
     let mut numbers = Vec::new(rt.alloc());
     let mut words = line.split(' ');
@@ -59,20 +61,17 @@ fn print_line(rt: &LibcRuntime, line: &str) -> Result<(), AnyError> {
         Some(n) => (*n).min(255) as u8,
         None => 0,
     };
-    print!(rt, "{text} over {signals}")?;
     match judge(rt.alloc(), text.as_bytes(), signals)? {
-        Judged::Unread => print!(rt, ": no formula")?,
-        Judged::Unfit(misfit) => {
-            let why = reason(misfit);
-            print!(rt, ": no rule, {why}")?;
-        }
+        Judged::Unfit(why) => println!(rt, "{text} over {signals}: {why}")?,
         Judged::Ready(mut monitor) => {
+            let count = monitor.obligation().count();
+            let verdict = letter(monitor.verdict());
+            println!(rt, "{text} over {signals}: {count} parts, {verdict}")?;
             if numbers.len() > 0 {
                 print_flight(rt, &mut monitor, &numbers[1..])?;
             }
         }
     }
-    println!(rt, "")?;
     Ok(())
 }
 

@@ -124,7 +124,7 @@ fn print_gate(rt: &LibcRuntime) -> Result<(), AnyError> {
     print_closed(rt, &mut formula, 1, "closed at 1", &mut space)
 }
 
-pub fn print_all(rt: &LibcRuntime) -> Result<(), AnyError> {
+pub(crate) fn print_all(rt: &LibcRuntime) -> Result<(), AnyError> {
     let mut table = Table::new(rt.alloc())?;
     let used = fill(&mut table);
     let more = table.constant(true).is_some();

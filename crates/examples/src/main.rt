@@ -8,7 +8,6 @@ use monitor::Verdict;
 use parts::Table;
 use rule::Rule;
 use sample::Sample;
-use show::name;
 use show::text_of;
 use std::error::AnyError;
 
@@ -39,16 +38,16 @@ fn word(verdict: Verdict) -> &'static str {
     }
 }
 
-/// Prints what is read, as `p on, q off`.
-fn print_reading(rt: &LibcRuntime, signals: u8, reading: u32) -> Result<(), AnyError> {
-    for j in 0..signals.min(32) {
-        let on = (reading >> j) % 2 == 1;
-        let signal = name(j);
-        let state = if on { "on" } else { "off" };
-        let comma = if j > 0 { ", " } else { "" };
-        print!(rt, "{comma}{signal} {state}")?;
+/// What is read of the two signals, in words.
+fn words(signals: u8, reading: u32) -> &'static str {
+    match (signals, reading % 4) {
+        (1, 0) => "p off",
+        (1, _) => "p on",
+        (_, 0) => "both off",
+        (_, 1) => "p on, q off",
+        (_, 2) => "p off, q on",
+        (_, _) => "both on",
     }
-    Ok(())
 }
 
 /// Prints what the monitor makes of one reading.
@@ -59,19 +58,20 @@ fn print_step(
     reading: u32,
 ) -> Result<(), AnyError> {
     let tick = monitor.next_tick();
-    print!(rt, "  tick {tick}: ")?;
     if let Err(hold) = monitor.step(reading) {
         let n = hold.number();
-        println!(rt, "hold {n}")?;
+        println!(rt, "  tick {tick}: hold {n}")?;
         return Ok(());
     }
-    print_reading(rt, signals, reading)?;
+    let read = words(signals, reading);
     let after = text_of(rt.alloc(), monitor.obligation())?;
     let verdict = word(monitor.verdict());
-    print!(rt, " gives {after}, {verdict}")?;
     match monitor.deciding_tick() {
-        Some(decided) => println!(rt, ", decided at tick {decided}")?,
-        None => println!(rt, "")?,
+        Some(decided) => println!(
+            rt,
+            "  tick {tick}: {read} gives {after}, {verdict} since tick {decided}"
+        )?,
+        None => println!(rt, "  tick {tick}: {read} gives {after}, {verdict}")?,
     }
     Ok(())
 }

@@ -17,7 +17,7 @@ pub enum Sample {
 
 impl Sample {
     /// As a sheet has it.
-    pub fn text(self) -> &'static str {
+    pub(crate) fn text(self) -> &'static str {
         match self {
             Sample::FinallyP => "F p",
             Sample::PUntilQ => "p U q",
@@ -30,7 +30,7 @@ impl Sample {
     }
 
     /// Over how many signals it is.
-    pub fn signals(self) -> u8 {
+    pub(crate) fn signals(self) -> u8 {
         match self {
             Sample::PUntilQ => 2,
             Sample::PAndPAndQ => 2,
@@ -39,7 +39,7 @@ impl Sample {
     }
 
     /// Makes it in a table.
-    pub fn make(self, table: &mut Table) -> Option<u16> {
+    pub(crate) fn make(self, table: &mut Table) -> Option<u16> {
         let p = table.signal(0)?;
         match self {
             Sample::FinallyP => unary(table, Unary::Finally, p),

@@ -11,7 +11,7 @@ use std::alloc::AllocError;
 use std::alloc::Global;
 
 /// The names of the two signals that the examples use.
-pub fn name(signal: u8) -> &'static str {
+fn name(signal: u8) -> &'static str {
     match signal {
         0 => "p",
         1 => "q",
@@ -96,7 +96,7 @@ fn write_part(formula: &Compact, at: u16, least: u8, out: &mut String) -> Result
 }
 
 /// The text of a formula.
-pub fn text_of(heap: Global, formula: &Compact) -> Result<String, AllocError> {
+pub(crate) fn text_of(heap: Global, formula: &Compact) -> Result<String, AllocError> {
     let mut out = String::new(heap);
     let top = formula.count() - 1;
     write_bare(formula, top as u16, &mut out)?;

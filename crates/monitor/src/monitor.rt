@@ -1,5 +1,4 @@
 //! The global monitor.
-ghost use Prim.Native.Nat.{_≤_};
 ghost use mathlib.Core.Path.{_≡_};
 ghost use mathlib.Core.Bool.{true};
 ghost use Rattle.std.specs.Of.Vec.{vec-len};

@@ -8,7 +8,7 @@ ghost use Rattle.monitor.specs.Monitoring.{bit, shown};
 use progression::Reading;
 
 /// Whether a reading has a bit beyond the signals.
-pub fn is_beyond(signals: u8, reading: u32) -> bool
+pub(crate) fn is_beyond(signals: u8, reading: u32) -> bool
     requires { ⌜ signals ≤ 32 ⌝ }
     ensures { λ r. ⌜ r ≡ leb (2 ^ signals) reading ⌝ }
 {
@@ -28,7 +28,7 @@ fn bit_of(reading: u32, j: usize) -> Reading
 }
 
 /// Writes what each bit of a reading shows.
-pub fn fill(row: &mut [Reading], reading: u32)
+pub(crate) fn fill(row: &mut [Reading], reading: u32)
     requires { ⌜ length (now row) ≡ 32 ⌝ }
     ensures { λ _. ⌜ ((k : ℕ) → k < 32 → getD (now (row .exit)) k Reading.Open ≡ shown (bit reading k)) ⌝ }
 {

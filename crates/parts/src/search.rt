@@ -8,14 +8,14 @@ use crate::part::Part;
 use crate::part::PartPartialEq;
 
 /// Whether two parts are equal.
-pub fn is_same(a: Part, b: Part) -> bool
+pub(crate) fn is_same(a: Part, b: Part) -> bool
     ensures { λ r. ⌜ When r (a ≡ b) (a ≡ b → ⊥) ⌝ }
 {
     a == b
 }
 
 /// The first place of a part, or how many there are.
-pub fn find(parts: &[Part], part: Part) -> usize
+pub(crate) fn find(parts: &[Part], part: Part) -> usize
     ensures within { λ r. ⌜ r ≤ length (now (parts .entry)) ⌝ }
     ensures before { λ r. ⌜ ((k : ℕ) → k < r → getD (now (parts .entry)) k blank ≡ part → ⊥) ⌝ }
     ensures found { λ r. ⌜ (r < length (now (parts .entry)) → getD (now (parts .entry)) r blank ≡ part) ⌝ }

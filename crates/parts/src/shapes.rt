@@ -2,7 +2,7 @@
 ghost use Prim.Native.Nat.{_<_};
 ghost use mathlib.Core.Path.{_≡_};
 ghost use lib.ListN.{length};
-ghost use Rattle.temporal.specs.Formula.Formula.{const, signal, reading};
+ghost use Rattle.temporal.specs.Formula.Formula.{const};
 ghost use Rattle.temporal.specs.Shorten.{same, begins, unit};
 ghost use Rattle.parts.specs.Places.{Sound, Shapes, formula, op, oneˢ, twoˢ};
 use crate::part::Binary;
@@ -75,7 +75,7 @@ fn joined(parts: &[Part], by: Junction, x: u16, y: u16) -> Shape
 }
 
 /// Not, X, F, G.
-pub fn unary(parts: &[Part], sign: Unary, x: u16) -> Shape
+pub(crate) fn unary(parts: &[Part], sign: Unary, x: u16) -> Shape
     requires sound { ⌜ Sound (now parts) ⌝ }
     requires x { ⌜ x < length (now parts) ⌝ }
     ensures { λ r. ⌜ Shapes (now (parts .entry)) (oneˢ sign (formula (now (parts .entry)) x)) r ⌝ }
@@ -91,7 +91,7 @@ pub fn unary(parts: &[Part], sign: Unary, x: u16) -> Shape
 }
 
 /// And, or, U.
-pub fn binary(parts: &[Part], sign: Binary, x: u16, y: u16) -> Shape
+pub(crate) fn binary(parts: &[Part], sign: Binary, x: u16, y: u16) -> Shape
     requires sound { ⌜ Sound (now parts) ⌝ }
     requires x { ⌜ x < length (now parts) ⌝ }
     requires y { ⌜ y < length (now parts) ⌝ }
