@@ -12,14 +12,6 @@ use std::alloc::AllocError;
 use std::alloc::Global;
 use std::error::AnyError;
 
-/// The deciding tick in words.
-fn since(heap: Global, tick: Option<u32>) -> Result<String, AllocError> {
-    match tick {
-        Some(t) => format!(heap, "since {t}"),
-        None => String::from_str(heap, "open"),
-    }
-}
-
 /// Prints what became of one reading, given so many times.
 fn print_steps(
     rt: &LibcRuntime,
@@ -31,10 +23,10 @@ fn print_steps(
     let next = monitor.next_tick();
     let count = monitor.obligation().count();
     let verdict = letter(monitor.verdict());
-    let when = since(rt.alloc(), monitor.deciding_tick())?;
+    let decided = monitor.deciding_tick();
     println!(
         rt,
-        "  {reading}: {accepted} of {times}, hold {held}, next {next}, {count} parts, {verdict} {when}"
+        "  {reading}: {accepted} of {times}, hold {held}, next {next}, {count} parts, {verdict} {decided:?}"
     )?;
     Ok(())
 }
@@ -47,32 +39,39 @@ fn print_flight(rt: &LibcRuntime, monitor: &mut Monitor, words: &[u32]) -> Resul
     Ok(())
 }
 
-/// Prints one line: a formula, how many signals, and pairs of a reading and how often it is given.
-fn print_line(rt: &LibcRuntime, line: &str) -> Result<(), AnyError> {
-    let mut numbers = Vec::new(rt.alloc());
-    let mut words = line.split(' ');
-    let text = words.next().unwrap_or("");
-    for word in words {
+/// The numbers of a line, behind its first word.
+fn numbers_of(heap: Global, line: &str) -> Result<Vec<u32>, AllocError> {
+    let mut numbers = Vec::new(heap);
+    for word in line.split(' ') {
         if let Ok(n) = word.parse::<u32>() {
             numbers.push(n)?;
         }
     }
-    let signals = match numbers.first() {
-        Some(n) => (*n).min(255) as u8,
-        None => 0,
-    };
+    Ok(numbers)
+}
+
+/// Prints what a formula comes to over so many signals, and the steps of its monitor.
+fn print_rule(rt: &LibcRuntime, text: &str, signals: u8, words: &[u32]) -> Result<(), AnyError> {
     match judge(rt.alloc(), text.as_bytes(), signals)? {
         Judged::Unfit(why) => println!(rt, "{text} over {signals}: {why}")?,
         Judged::Ready(mut monitor) => {
             let count = monitor.obligation().count();
             let verdict = letter(monitor.verdict());
             println!(rt, "{text} over {signals}: {count} parts, {verdict}")?;
-            if numbers.len() > 0 {
-                print_flight(rt, &mut monitor, &numbers[1..])?;
-            }
+            print_flight(rt, &mut monitor, words)?;
         }
     }
     Ok(())
+}
+
+/// Prints one line: a formula, how many signals, and pairs of a reading and how often it is given.
+fn print_line(rt: &LibcRuntime, line: &str) -> Result<(), AnyError> {
+    let numbers = numbers_of(rt.alloc(), line)?;
+    let text = line.split(' ').next().unwrap_or("");
+    match numbers.as_slice() {
+        [signals, words @ ..] => print_rule(rt, text, (*signals).min(255) as u8, words),
+        [] => Err("no number of signals".into()),
+    }
 }
 
 fn run(rt: &LibcRuntime) -> Result<(), AnyError> {

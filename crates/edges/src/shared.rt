@@ -66,14 +66,12 @@ fn print_formula(
         Some(false) => "F",
         None => "?",
     };
-    let held = if done.is_ok() { "" } else { ", too many" };
-    match formula.earliest_open(space) {
-        Some(tick) => println!(
-            rt,
-            "{what}: {count} parts, {verdict}, open from {tick}{held}"
-        )?,
-        None => println!(rt, "{what}: {count} parts, {verdict}{held}")?,
-    }
+    let accepted = done.is_ok();
+    let open = formula.earliest_open(space);
+    println!(
+        rt,
+        "{what}: {accepted}, {count} parts, {verdict}, open from {open:?}"
+    )?;
     Ok(())
 }
 
