@@ -1,4 +1,6 @@
 //! Reads a sheet and tick lines from standard input, and prints their listing.
+#![tactic(auto)]
+
 use listing::Listing;
 use std::io::Read;
 

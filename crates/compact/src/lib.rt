@@ -1,4 +1,6 @@
 //! One formula in memory of its own, its parts in the walk's order: step, closing, count, earliest open tick.
+#![tactic(auto)]
+
 mod compact;
 mod compacts;
 mod earliest;

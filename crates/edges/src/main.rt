@@ -1,4 +1,6 @@
 //! Takes rules and readings from standard input, and prints what the monitor makes of them: the limits from both sides.
+#![tactic(auto)]
+
 mod build;
 mod flight;
 mod shared;

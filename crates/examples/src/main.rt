@@ -1,4 +1,6 @@
 //! Takes the worked examples through the global monitor: for each the rule, each reading, the obligation after it and the verdict.
+#![tactic(auto)]
+
 mod sample;
 mod show;
 

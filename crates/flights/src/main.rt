@@ -1,4 +1,6 @@
 //! Prints the listing of each input that stands on standard input. Inputs are ended by `=` and a line end.
+#![tactic(auto)]
+
 use listing::Listing;
 use roster::find;
 use std::io::Read;

@@ -1,4 +1,6 @@
 //! The order in which a call is judged.
+#![tactic(auto)]
+
 ghost use Rattle.holds.specs.Order.{FirstFitMeans};
 ghost use Rattle.holds.specs.Cases.{FirstCaseMeans, Hold};
 

@@ -1,4 +1,6 @@
 //! The listing of a flight: reads a sheet and tick lines, and gives a line for each tick with the global monitor's verdict.
+#![tactic(auto)]
+
 mod fault;
 mod flight;
 mod flights;

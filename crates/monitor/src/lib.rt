@@ -1,4 +1,6 @@
 //! The global monitor: it sees all signals of a site and progresses the rule by them.
+#![tactic(auto)]
+
 mod monitor;
 mod monitors;
 mod readings;

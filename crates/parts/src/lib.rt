@@ -1,4 +1,6 @@
 //! A table of interned parts, in which formulas are made, shortened as they are built.
+#![tactic(auto)]
+
 mod interning;
 mod part;
 mod search;

@@ -1,4 +1,6 @@
 //! Rewritings of formulas in a table: one step of progression, and the closing of open readings.
+#![tactic(auto)]
+
 mod pass;
 mod reading;
 mod rewrite;

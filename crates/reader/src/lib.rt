@@ -1,4 +1,6 @@
 //! Reads the words of a rule into a table of parts.
+#![tactic(auto)]
+
 mod building;
 mod frame;
 mod known;

@@ -1,4 +1,6 @@
 //! The posts and signals of a site, as the post lines of a sheet name them, and why a sheet is held back.
+#![tactic(auto)]
+
 mod fault;
 mod postline;
 mod roster;

@@ -1,4 +1,6 @@
 //! A rule: a formula that is fit to be monitored over so many signals.
+#![tactic(auto)]
+
 mod misfit;
 mod rule;
 mod rules;

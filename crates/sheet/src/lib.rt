@@ -1,4 +1,6 @@
 //! Reads a station sheet: its posts, their signals, and the rule.
+#![tactic(auto)]
+
 mod blank;
 mod blanks;
 mod reading;

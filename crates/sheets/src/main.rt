@@ -1,5 +1,7 @@
 //! Reads sheets from standard input, one to a line, and prints what becomes of each: the hold with its line and word, or the
 //! posts, the signals with their owners, and the parts of the rule.
+#![tactic(auto)]
+
 mod show;
 
 use roster::SheetFault;

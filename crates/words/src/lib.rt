@@ -1,4 +1,6 @@
 //! The words of a rule, and the names of posts and signals.
+#![tactic(auto)]
+
 mod cutting;
 mod laws;
 mod name;
