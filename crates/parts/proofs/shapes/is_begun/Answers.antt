@@ -5,5 +5,5 @@ use Rattle.parts.proofs.shapes.is_begun.Goals as goal
 pub returns-in-Two : goal.returns-in-Two
 returns-in-Two c = search (rules, begun_tested)
 
-pub returns-in-default : goal.returns-in-default
-returns-in-default c = search (rules, begun_no)
+pub returns-in_default : goal.returns-in_default
+returns-in_default c = search (rules, begun_no)

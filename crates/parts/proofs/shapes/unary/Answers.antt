@@ -5,8 +5,8 @@ use Rattle.parts.proofs.shapes.unary.Goals as goal
 pub returns-in-Const : goal.returns-in-Const
 returns-in-Const c = search (rules, not_const_way)
 
-pub returns-in-default-operand : goal.returns-in-default-operand
-returns-in-default-operand c = search (rules, not_kept_way)
+pub returns-in_default-operand : goal.returns-in_default-operand
+returns-in_default-operand c = search (rules, not_kept_way)
 
-pub returns-in-default : goal.returns-in-default
-returns-in-default c = search (rules, time_way)
+pub returns-in_default : goal.returns-in_default
+returns-in_default c = search (rules, time_way)
