@@ -16,7 +16,7 @@ pub fn rewrite_all<R: Rewrite>(places: &mut Vec<Part>, used: &mut usize, by: &R,
     ensures fits { used.new ≤ 768 }
     ensures grown { Grown (2 * used.old) (in_use used.old places.old) (in_use used.new places.new) }
     ensures sound { Sound (in_use used.new places.new) }
-    ensures imaged { Imaged (to by.now) (in_use used.new places.new) images.new used.old }
+    ensures imaged { Imaged (R.to by.now) (in_use used.new places.new) images.new used.old }
 {
     let n = *used;
     for i in 0..n {
