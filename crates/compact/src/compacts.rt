@@ -71,7 +71,7 @@ fn write_image<R: Rewrite>(table: &mut Table, by: &R, space: &mut Workspace) -> 
     ensures grown { Grown (2 * length (parts_of table.old)) (parts_of table.old) (parts_of table.new) }
     ensures few { result ≤ 768 }
     ensures sound { Sound (in_use result space.new.out) }
-    ensures walked { formulas (in_use result space.new.out) ≡ parts (to by.now (final (formulas (parts_of table.old)))) }
+    ensures walked { formulas (in_use result space.new.out) ≡ parts (R.to by.now (final (formulas (parts_of table.old)))) }
 {
     let n = table.used;
     rewrite_all(&mut table.places, &mut table.used, by, &mut space.images);
@@ -82,7 +82,7 @@ fn write_image<R: Rewrite>(table: &mut Table, by: &R, space: &mut Workspace) -> 
 impl Compact {
     /// Becomes what the rewriting makes of it.
     fn rewrite<R: Rewrite>(&mut self, by: &R, space: &mut Workspace) -> Result<(), TooMany>
-        ensures { Became self.old self.new (to by.now (formula_of self.old)) result }
+        ensures { Became self.old self.new (R.to by.now (formula_of self.old)) result }
     {
         let n = self.table.used();
         let count = write_image(&mut self.table, by, space);

@@ -15,4 +15,4 @@ pub returns-in-One : goal.returns-in-One
 returns-in-One c = one_tick _ c.requires.sound _ c.requires.at _ _ _ c.in-One.is c.requires.ticked
 
 pub returns-in-Two : goal.returns-in-Two
-returns-in-Two c = c.earlier-of.ensures ∙ two_tick _ c.requires.sound _ c.requires.at _ _ _ _ c.in-Two.is c.requires.ticked
+returns-in-Two c = c.earlier_of.ensures ∙ two_tick _ c.requires.sound _ c.requires.at _ _ _ _ c.in-Two.is c.requires.ticked

@@ -50,8 +50,8 @@ write-requires-in-Two t c =
     let l = used_length c.walk-y.new.out c.walk-y.new.count y.long y.count in
     record { at = omega (arith, y.numbered.long, c.requires.at); long = y.long; room = omega (arith, c.requires.few) }
 
-pub write-requires-in-default : goal.write-requires-in-default
-write-requires-in-default t c =
+pub write-requires-in_default : goal.write-requires-in_default
+write-requires-in_default t c =
     let r = room c.args.parts.now c.requires.sound c.args.at c.requires.at c.args.numbers.now _ c.requires.numbered c.if-seen.false in
     let l = used_length c.args.out.now c.args.count.now c.requires.long c.requires.count in
     record { at = omega (arith, c.requires.numbered.long, c.requires.at); long = c.requires.long; room = omega (arith, c.requires.few) }
@@ -114,23 +114,23 @@ returns-in-Two t c =
       grown = z.3;
     }
 
-pub returns-in-default : goal.returns-in-default
-returns-in-default t c =
+pub returns-in_default : goal.returns-in_default
+returns-in_default t c =
     let ps = c.args.parts.now in
     let i = c.args.at in
     let ns = c.args.numbers.now in
     let qs = in_use c.args.count.now c.args.out.now in
-    let f = walked_leaf ps c.requires.sound i c.requires.at (formulas qs) c.in-default.not-One c.in-default.not-Two in
+    let f = walked_leaf ps c.requires.sound i c.requires.at (formulas qs) c.in_default.not-One c.in_default.not-Two in
     let r = room ps c.requires.sound i c.requires.at ns qs c.requires.numbered c.if-seen.false in
     let l = used_length c.args.out.now c.args.count.now c.requires.long c.requires.count in
     let q = new_leaf ps c.requires.sound i c.requires.at (formulas qs) qs f.1 in
     let g = grown_on 0 0 768 qs qs qs (omega arith) (grown_none qs) (grown_none qs) in
     let z = written ps c.requires.sound c.requires.few i c.requires.at ns qs c.requires.numbered c.if-seen.false ns qs
-    (get_or ps i blank) c.requires.numbered g f.0 q.0 q.1 c.write-in-default.result c.write-in-default.new.numbers
-    (in_use c.write-in-default.new.count c.write-in-default.new.out) (c.write-in-default.ensures.value ∙ sym l) c.write-in-default.ensures.numbers c.write-in-default.ensures.out in
+    (get_or ps i blank) c.requires.numbered g f.0 q.0 q.1 c.write-in_default.result c.write-in_default.new.numbers
+    (in_use c.write-in_default.new.count c.write-in_default.new.out) (c.write-in_default.ensures.value ∙ sym l) c.write-in_default.ensures.numbers c.write-in_default.ensures.out in
     record {
-      long = c.write-in-default.ensures.long;
-      count = omega (arith, c.write-in-default.ensures.count, c.requires.few);
+      long = c.write-in_default.ensures.long;
+      count = omega (arith, c.write-in_default.ensures.count, c.requires.few);
       numbered = z.0;
       walked = z.1;
       stands = z.2;

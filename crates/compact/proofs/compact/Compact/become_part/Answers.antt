@@ -12,12 +12,12 @@ returns-then-count-gt-MOST c =
     let l = used_length c.number-count.new.out c.number-count.result w.long w.few in
     (omega (arith, ap length w.walked, formulas_length (in_use c.number-count.result c.number-count.new.out)), refl)
 
-pub invariant-of-self : goal.invariant-of-self
-invariant-of-self c =
+pub invariant_of-self : goal.invariant_of-self
+invariant_of-self c =
     let w = c.number-count.ensures in
     let l = used_length c.number-count.new.out c.number-count.result w.long w.few in
     let a = adopted (formula (parts_of c.args.table.now) c.args.at) (parts_of c.adopt.new.self) _ _ w.walked c.adopt.ensures.parts l c.if-count-gt-MOST.false in
-    (a.0, (a.1, (a.2, tt)))
+    record { some = a.0; few = a.1; walked = a.2 }
 
 pub returns : goal.returns
 returns c =

@@ -8,8 +8,8 @@ use Rattle.parts.proofs.Making.{used_length}
 use Rattle.compact.proofs.Compacting.{adopted, counted, top_formula}
 use Rattle.compact.proofs.compact.Compact.copy.Goals as goal
 
-pub invariant-of-self : goal.invariant-of-self
-invariant-of-self c =
+pub invariant_of-self : goal.invariant_of-self
+invariant_of-self c =
     let o = c.args.other.now in
     let w = c.number-count.ensures in
     let r = c.number-count.result in
@@ -17,7 +17,7 @@ invariant-of-self c =
     let q = w.walked ∙ ap parts (top_formula o c.used-top.result c.used-top.ensures) in
     let k = formulas_length (in_use r c.number-count.new.out) in
     let a = adopted (formula_of o) (parts_of c.adopt.new.self) _ r q c.adopt.ensures.parts l (omega (arith, ap length q, counted o, o.few)) in
-    (a.0, (a.1, (a.2, tt)))
+    record { some = a.0; few = a.1; walked = a.2 }
 
 pub returns : goal.returns
 returns c =

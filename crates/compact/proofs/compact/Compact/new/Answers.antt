@@ -4,13 +4,13 @@ use Rattle.parts.specs.Tables.{parts_of}
 use Rattle.compact.proofs.Compacting.{fresh_walked, walked_alike}
 use Rattle.compact.proofs.compact.Compact.new.Goals as goal
 
-pub invariant-of-result : goal.invariant-of-result
-invariant-of-result c =
-    let w = fresh_walked false _ _ _ c.in-ok-table.ensures c.constant.ensures in
+pub invariant_of-result : goal.invariant_of-result
+invariant_of-result c =
+    let w = fresh_walked false _ _ _ c.in_ok-table.ensures c.constant.ensures in
     let a = walked_alike (parts_of c.constant.new.self) never w.0 in
-    (a.0, (w.1, (a.2, tt)))
+    record { some = a.0; few = w.1; walked = a.2 }
 
 pub returns : goal.returns
 returns c =
     (walked_alike (parts_of c.constant.new.self) never
-    (fresh_walked false _ _ _ c.in-ok-table.ensures c.constant.ensures).0).1
+    (fresh_walked false _ _ _ c.in_ok-table.ensures c.constant.ensures).0).1

@@ -5,6 +5,6 @@ use Rattle.compact.proofs.compact.Compact.value.Goals as goal
 pub returns-in-Const : goal.returns-in-Const
 returns-in-Const c = constant_at c.args.self.now _ _ c.used-top.ensures refl _ c.in-Const.ensures
 
-pub returns-in-default : goal.returns-in-default
-returns-in-default c =
-    no_constant c.args.self.now _ _ c.used-top.ensures refl (λ b e. c.in-default.not-Const b (c.part.ensures ∙ e))
+pub returns-in_default : goal.returns-in_default
+returns-in_default c =
+    no_constant c.args.self.now _ _ c.used-top.ensures refl (λ b e. c.in_default.not-Const b (c.part.ensures ∙ e))
