@@ -52,7 +52,7 @@ fn infix(sign: Binary) -> &'static str {
 }
 
 /// Writes a part without brackets round it.
-#[cycle(write_bare_write_part)]
+#[cycle(writing)]
 fn write_bare(formula: &Compact, at: u16, out: &mut String) -> Result<(), AllocError>
     requires { at < length (compact_parts formula.now) }
 {
@@ -64,7 +64,8 @@ fn write_bare(formula: &Compact, at: u16, out: &mut String) -> Result<(), AllocE
         Part::Open(p, tick) => {
             out.push_str(name(p))?;
             out.push_str("@")?;
-            let text = tick.to_string(out.allocator())?;
+            let heap = *out.allocator();
+            let text = tick.to_string(heap)?;
             out.push_str(text.as_str())
         }
         Part::One(sign, a) => {
@@ -81,7 +82,7 @@ fn write_bare(formula: &Compact, at: u16, out: &mut String) -> Result<(), AllocE
 }
 
 /// Writes a part, in brackets if it binds looser than it must.
-#[cycle(write_bare_write_part)]
+#[cycle(writing)]
 fn write_part(formula: &Compact, at: u16, least: u8, out: &mut String) -> Result<(), AllocError>
     requires { at < length (compact_parts formula.now) }
 {
