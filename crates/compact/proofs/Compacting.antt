@@ -1,18 +1,16 @@
 -- The laws of a formula in memory of its own.
-use Rattle.std.proofs.Common.{◌≡◌, ℕ, zero, suc, ◌+◌, ◌-◌, ◌*◌, ◌<◌, ◌≤◌, Bool, true, false, cond, List, [], ◌∷◌, ◌++◌, length, get_or, take, drop, Some, None, vec_items, Option, Vec, sym, refl, ap, ◌∙◌, subst, ap₂, arith}
+use Rattle.std.proofs.Common.{◌≡◌, ℕ, zero, suc, ◌-◌, ◌*◌, ◌<◌, ◌≤◌, Bool, true, false, cond, List, [], ◌∷◌, ◌++◌, length, get_or, take, drop, Some, None, vec_items, Option, Vec, sym, refl, ap, ◌∙◌, subst, ap₂, arith}
 use mathlib.Core.Bool.{false≢true}
 use Rattle.std.proofs.lemmas.List.{length_push, get_or_read, with_items_is}
 use Rattle.temporal.specs.Formula.{Formula}
 use Rattle.temporal.specs.Formula.Formula.{const}
 use Rattle.temporal.specs.Shorten.{same}
 use Rattle.temporal.specs.Parts.{parts, final, alike}
-use Rattle.parts.specs.Places.{one, two, node, place, formula, formulas, blank, Grown, Stands, Interned}
+use Rattle.parts.specs.Places.{node, place, formula, formulas, blank, Grown, Stands, Interned}
 use Rattle.progression.specs.Passes.{Imaged}
 use Rattle.compact.specs.Compacts.{compact_parts, formula_of, constant}
 use Rattle.compact.specs.declared.compact.Compact.{Compact}
-use Rattle.parts.specs.declared.part.Unary.{Unary}
 use Rattle.parts.specs.declared.part.Unary.TheVariants.{Not, Next, Finally, Globally}
-use Rattle.parts.specs.declared.part.Binary.{Binary}
 use Rattle.parts.specs.declared.part.Binary.TheVariants.{Join, Until}
 use Rattle.parts.specs.declared.part.Part.{Part}
 use Rattle.parts.specs.declared.part.Part.TheVariants.{Const, Signal, Open, One, Two}

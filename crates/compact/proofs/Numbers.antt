@@ -1,11 +1,9 @@
 -- The laws of numbering.
-use Rattle.std.proofs.Common.{◌≡◌, ℕ, zero, suc, ◌+◌, ◌<◌, ◌≤◌, max, true, ◌≢◌, ◌⊎◌, List, [], ◌∷◌, ◌++◌, length, get_or, take, set, sym, refl, ap, ◌∙◌, subst, ap₂, inl, inr, arith, length-set}
-use native.Mathlib.Decide.{ℕ_discrete, dec_lt}
+use Rattle.std.proofs.Common.{◌≡◌, ℕ, zero, suc, ◌<◌, ◌≤◌, true, ◌⊎◌, List, [], ◌∷◌, ◌++◌, length, get_or, set, sym, refl, ap, ◌∙◌, subst, ap₂, inl, inr, arith, length-set}
+use native.Mathlib.Decide.{ℕ_discrete}
 use Rattle.std.proofs.lemmas.List.{length_push, get_or-set_same, get_or-set_other}
 use Rattle.temporal.specs.Formula.{Formula}
-use Rattle.temporal.specs.Formula.Op.{and, or}
-use Rattle.temporal.specs.Formula.Formula.{const, signal, reading, neg, join, next, finally, globally, until}
-use Rattle.temporal.specs.Parts.{In, Distinct, Part as PartOf, Whole, walk, parts}
+use Rattle.temporal.specs.Parts.{In, Distinct, Part as PartOf, Whole, walk}
 use Rattle.parts.specs.Places.{one, two, node, place, formula, formulas, blank, reach, short, Sound, OperandsFirst, Grown, Stands}
 use Rattle.compact.specs.Numbered.{Numbered}
 use Rattle.parts.specs.declared.part.Unary.{Unary}
@@ -14,10 +12,10 @@ use Rattle.parts.specs.declared.part.Binary.{Binary}
 use Rattle.parts.specs.declared.part.Binary.TheVariants.{Join, Until}
 use Rattle.parts.specs.declared.part.Part.{Part}
 use Rattle.parts.specs.declared.part.Part.TheVariants.{Const, Signal, Open, One, Two}
-use Rattle.temporal.proofs.Lists.{in_left, in_right, in_either, in_same, no_longer}
-use Rattle.temporal.proofs.Parts.{part_self, walk_distinct, walk_only, walk_lists}
+use Rattle.temporal.proofs.Lists.{in_either, in_same, no_longer}
+use Rattle.temporal.proofs.Parts.{walk_distinct, walk_only}
 use Rattle.temporal.proofs.Order.{under, walk_under, finish_new, not_under, whole_walk, all_listed}
-use Rattle.parts.proofs.Places.{formula_node, formula_part, node_same, formulas_length, formulas_push, push_old, push_new, apart, grown_push, grown_on, stands_on, ordered_push}
+use Rattle.parts.proofs.Places.{formula_node, formula_part, node_same, formulas_length, formulas_push, push_new, apart, grown_push, grown_on, stands_on, ordered_push}
 
 -- Membership by place.
 in_at : (fs : List Formula) (k : ℕ) → k < length fs → In (place fs k) fs

@@ -1,9 +1,6 @@
 -- The earliest open tick of a part.
-use Rattle.std.proofs.Common.{◌≡◌, ℕ, ◌<◌, ◌≤◌, min, ◌⊎◌, List, length, get_or, Some, None, Option, sym, refl, ap, ◌∙◌, subst, ap₂, inl, inr, arith}
-use native.Mathlib.Decide.{dec_le}
+use Rattle.std.proofs.Common.{◌≡◌, ℕ, ◌<◌, List, length, get_or, None, Option, sym, refl, ap, ◌∙◌, ap₂}
 use Rattle.temporal.specs.Formula.{Formula}
-use Rattle.temporal.specs.Formula.Formula.{const, signal, reading, neg, join, next, finally, globally, until}
-use Rattle.temporal.specs.Obligation.{Open}
 use Rattle.parts.specs.Places.{one, two, node, formula, blank, Sound}
 use Rattle.compact.specs.Ticks.{Ticked}
 use Rattle.parts.specs.declared.part.Unary.{Unary}
@@ -14,7 +11,7 @@ use Rattle.parts.specs.declared.part.Part.{Part}
 use Rattle.parts.specs.declared.part.Part.TheVariants.{One, Two}
 use Rattle.parts.proofs.Places.{formula_part}
 use Rattle.parts.proofs.Making.{one_low, two_low}
-use Rattle.temporal.specs.Earliest.{earlier, earliest, EarliestIsFirst}
+use Rattle.temporal.specs.Earliest.{earlier, earliest}
 
 -- By the top sign of a part.
 earliest_one : (u : Unary) (f : Formula) → earliest (one u f) ≡ earliest f

@@ -1,6 +1,5 @@
 -- The first that fits.
-use Rattle.std.proofs.Common.{◌≡◌, ℕ, Bool, true, false, cond, List, [], ◌∷◌, ◌++◌, Some, None, Option, sym, refl, ap, ◌∙◌, ap₂, arith}
-use mathlib.Core.Bool.{false≢true}
+use Rattle.std.proofs.Common.{◌≡◌, ℕ, true, false, [], ◌∷◌, ◌++◌, Some, None, refl, ap, arith}
 use Rattle.holds.specs.Cases.{Cases, first_case, NoCase, FirstCaseMeans}
 
 module _ {A : Type 0} where

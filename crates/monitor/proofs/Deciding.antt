@@ -1,5 +1,5 @@
 -- When a monitor decides.
-use Rattle.std.proofs.Common.{◌≡◌, ℕ, zero, suc, ◌+◌, ◌<◌, ◌≤◌, Bool, true, false, ◌⊎◌, List, [], ◌∷◌, map, length, take, Some, None, Option, sym, refl, ap, ◌∙◌, subst, inl, inr, arith}
+use Rattle.std.proofs.Common.{◌≡◌, ℕ, zero, suc, ◌+◌, ◌<◌, ◌≤◌, Bool, true, false, List, [], ◌∷◌, map, length, take, Some, None, Option, sym, refl, ap, ◌∙◌, subst, inl, inr, arith}
 use mathlib.Core.Bool.{false≢true}
 use Rattle.temporal.specs.Formula.{Formula}
 use Rattle.temporal.specs.Formula.Formula.{const, signal, reading, neg, join, next, finally, globally, until}
@@ -7,7 +7,7 @@ use Rattle.temporal.specs.Progress.{step, reads, through}
 use Rattle.temporal.proofs.Meaning.{verdict_of_every_run}
 use Rattle.monitor.specs.declared.verdict.Verdict.TheVariants.{False, True}
 use Rattle.compact.specs.Compacts.{constant}
-use Rattle.monitor.specs.Monitoring.{State, bit, decide, fresh, progressed, stepped, step_hold, unless, called, calls, with_accepted, accepted, as_verdict, verdict_of, DecidedAt, After, MonitorDecides}
+use Rattle.monitor.specs.Monitoring.{State, bit, decide, fresh, progressed, stepped, step_hold, unless, calls, with_accepted, accepted, as_verdict, verdict_of, DecidedAt, After, MonitorDecides}
 
 some≢none : {A : Type 0} {x : A} → Some x ≡ None → ⊥
 some≢none e = let z : true ≡ false = cc in false≢true (sym z)

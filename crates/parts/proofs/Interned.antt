@@ -1,12 +1,12 @@
 -- What looking a shape up comes to.
-use Rattle.std.proofs.Common.{◌≡◌, ℕ, ◌+◌, ◌-◌, ◌<◌, ◌≤◌, List, [], ◌∷◌, ◌++◌, length, get_or, take, set, Some, None, Option, sym, refl, ap, ◌∙◌, subst, arith}
-use Rattle.std.proofs.lemmas.List.{length-take-le, take_more_set, length_push}
+use Rattle.std.proofs.Common.{◌≡◌, ℕ, ◌-◌, ◌<◌, List, [], ◌∷◌, ◌++◌, length, get_or, take, Some, None, Option, sym, refl, ap, ◌∙◌, subst, arith}
+use Rattle.std.proofs.lemmas.List.{length_push}
 use Rattle.temporal.specs.Formula.{Formula}
-use Rattle.parts.specs.Places.{node, formula, blank, Sound, Grown, Stands, Fits, Shapes, meant, Made, Interned}
+use Rattle.parts.specs.Places.{formula, blank, Sound, Stands, Fits, Shapes, meant, Made, Interned}
 use Rattle.parts.specs.declared.shape.Shape.{Shape}
 use Rattle.parts.specs.declared.shape.Shape.TheVariants.{At, Is}
 use Rattle.parts.specs.declared.part.Part.{Part}
-use Rattle.parts.proofs.Places.{formula_node, formula_part, part_is, push_new, sound_push, grown_push}
+use Rattle.parts.proofs.Places.{formula_part, part_is, push_new, sound_push, grown_push}
 use Rattle.parts.proofs.Making.{made_here}
 
 -- The parts in use, as a slice has them.

@@ -1,5 +1,5 @@
 -- Making one formula after another.
-use Rattle.std.proofs.Common.{◌≡◌, ℕ, ◌+◌, ◌<◌, ◌≤◌, max, List, length, get_or, vec_items, vec_len, Vec, sym, ◌∙◌, subst, arith}
+use Rattle.std.proofs.Common.{◌≡◌, ℕ, ◌+◌, ◌<◌, ◌≤◌, List, length, get_or, vec_items, vec_len, Vec, sym, ◌∙◌, subst, arith}
 use Rattle.std.proofs.lemmas.List.{length-take-le}
 use Rattle.temporal.specs.Formula.{Formula}
 use Rattle.parts.specs.Places.{formula, blank, reach, Sound, Made, in_use}

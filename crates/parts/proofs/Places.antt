@@ -1,13 +1,13 @@
 -- The laws of the formulas in a table.
-use Rattle.std.proofs.Common.{◌≡◌, ℕ, suc, ◌+◌, ◌<◌, ◌≤◌, Bool, true, false, ◌⊎◌, List, [], ◌∷◌, ◌++◌, length, get_or, take, drop, sym, refl, ap, ◌∙◌, subst, ap₂, inl, inr, arith, take-append-drop, below_more}
-use native.Mathlib.Decide.{dec_le, dec_lt}
-use Rattle.std.proofs.lemmas.List.{length_push, get_or_push, get_or_append_left, drop_more, length-take-le, take_all, take_at, take-take, take_more, get_or-take}
+use Rattle.std.proofs.Common.{◌≡◌, ℕ, ◌+◌, ◌<◌, ◌≤◌, true, false, List, [], ◌∷◌, ◌++◌, length, get_or, take, drop, sym, refl, ap, ◌∙◌, subst, ap₂, arith, take-append-drop, below_more}
+use native.Mathlib.Decide.{dec_lt}
+use Rattle.std.proofs.lemmas.List.{length_push, get_or_push, get_or_append_left, length-take-le, take_all, take_at, take-take, take_more, get_or-take}
 use Rattle.temporal.specs.Formula.{Op, Formula}
 use Rattle.temporal.specs.Formula.Op.{and, or}
 use Rattle.temporal.specs.Formula.Formula.{const, signal, reading, neg, join, next, finally, globally, until}
-use Rattle.temporal.specs.Shorten.{same, shorten}
+use Rattle.temporal.specs.Shorten.{shorten}
 use Rattle.temporal.specs.Obligation.{Shortened}
-use Rattle.parts.specs.Places.{op, one, two, oneˢ, twoˢ, node, place, grow, formulas, formula, blank, reach, OperandsFirst, NoneTwice, AllShort, short, Sound, Grown, Stands, Fits}
+use Rattle.parts.specs.Places.{one, two, node, place, grow, formulas, formula, blank, reach, OperandsFirst, NoneTwice, AllShort, short, Sound, Grown, Stands, Fits}
 use Rattle.parts.specs.declared.part.Unary.{Unary}
 use Rattle.parts.specs.declared.part.Unary.TheVariants.{Not, Next, Finally, Globally}
 use Rattle.parts.specs.declared.part.Binary.{Binary}

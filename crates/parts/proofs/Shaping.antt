@@ -1,12 +1,10 @@
 -- What the tests of the shortening constructors say, and what each way comes to.
-use Rattle.std.proofs.Common.{◌≡◌, ℕ, ◌+◌, ◌<◌, ◌≤◌, max, Bool, true, false, cond, not, List, length, get_or, MatchBool, sym, refl, ap, ◌∙◌, subst, ap₂, arith}
-use mathlib.Core.Bool.{false≢true}
-use Rattle.temporal.specs.Formula.{Op, Formula}
-use Rattle.temporal.specs.Formula.Op.{and, or}
+use Rattle.std.proofs.Common.{◌≡◌, ℕ, ◌<◌, ◌≤◌, Bool, true, false, not, List, length, get_or, MatchBool, sym, refl, ap, ◌∙◌, subst, ap₂, arith}
+use Rattle.temporal.specs.Formula.{Formula}
 use Rattle.temporal.specs.Formula.Formula.{const, neg, join, until}
 use Rattle.temporal.specs.Shorten.{same, begins, unit, zero, negˢ, joinˢ, nextˢ, finallyˢ, globallyˢ, untilˢ, shorten}
 use Rattle.temporal.specs.Obligation.{Shortened}
-use Rattle.parts.specs.Places.{op, one, two, oneˢ, twoˢ, node, formula, blank, reach, short, Sound, Stands, Fits}
+use Rattle.parts.specs.Places.{op, one, oneˢ, twoˢ, node, formula, blank, reach, Sound, Stands, Fits}
 use Rattle.parts.specs.declared.part.Unary.{Unary}
 use Rattle.parts.specs.declared.part.Unary.TheVariants.{Not, Next, Finally, Globally}
 use Rattle.parts.specs.declared.part.Binary.{Binary}
@@ -15,7 +13,7 @@ use Rattle.parts.specs.declared.part.Junction.{Junction}
 use Rattle.parts.specs.declared.part.Junction.TheVariants.{And, Or}
 use Rattle.parts.specs.declared.part.Part.{Part}
 use Rattle.parts.specs.declared.part.Part.TheVariants.{Const, Signal, Open, One, Two}
-use Rattle.temporal.proofs.Shortening.{Apart, same_true, same_false, same_refl, begins_true, begins_false, begins_join, kept_join, unit_left, unit_right, zero_left, zero_right, twice, begun_at}
+use Rattle.temporal.proofs.Shortening.{same_true, same_false, same_refl, begins_true, begins_false, begins_join, kept_join, unit_left, unit_right, zero_left, zero_right, twice, begun_at}
 use Rattle.parts.proofs.Places.{right, of_two, kind, kindp, kind_node, formula_node, formula_part, apart, part_is, short_is, is_short}
 
 -- A test's value, from what holds where it is true.

@@ -1,12 +1,10 @@
 -- What a step or a closing makes of one part.
-use Rattle.std.proofs.Common.{◌≡◌, ℕ, ◌+◌, ◌<◌, ◌≤◌, max, ◌≢◌, List, length, get_or, set, sym, refl, ap, ◌∙◌, subst, ap₂, arith, below_more}
+use Rattle.std.proofs.Common.{◌≡◌, ℕ, ◌+◌, ◌<◌, ◌≢◌, List, length, get_or, set, sym, refl, ap, ◌∙◌, subst, ap₂, arith, below_more}
 use Rattle.std.proofs.lemmas.List.{get_or-set_same, get_or-set_other}
 use Rattle.temporal.specs.Formula.{Formula}
-use Rattle.temporal.specs.Formula.Op.{and, or}
-use Rattle.temporal.specs.Formula.Formula.{const, signal, reading, neg, join, next, finally, globally, until}
 use Rattle.temporal.specs.Shorten.{negˢ, joinˢ}
 use Rattle.temporal.specs.Progress.{step, close}
-use Rattle.parts.specs.Places.{op, one, two, twoˢ, node, formula, blank, reach, leaf, Sound, Stands, Made}
+use Rattle.parts.specs.Places.{op, one, two, twoˢ, node, formula, blank, leaf, Sound, Stands, Made}
 use Rattle.progression.specs.Passes.{Imaged, stepped_one, stepped_two}
 use Rattle.parts.specs.declared.part.Unary.{Unary}
 use Rattle.parts.specs.declared.part.Unary.TheVariants.{Not, Next, Finally, Globally}
@@ -14,7 +12,7 @@ use Rattle.parts.specs.declared.part.Binary.{Binary}
 use Rattle.parts.specs.declared.part.Binary.TheVariants.{Join, Until}
 use Rattle.parts.specs.declared.part.Junction.{Junction}
 use Rattle.parts.specs.declared.part.Part.{Part}
-use Rattle.parts.specs.declared.part.Part.TheVariants.{Const, Signal, Open, One, Two}
+use Rattle.parts.specs.declared.part.Part.TheVariants.{Signal, Open, One, Two}
 use Rattle.parts.proofs.Places.{formula_part, stands_on}
 use Rattle.parts.proofs.Making.{made_here, made_as, stood, one_low, two_low}
 

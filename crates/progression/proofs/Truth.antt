@@ -1,7 +1,7 @@
 -- Steps by rows and closings by what is known keep the meaning.
 use Rattle.std.proofs.Common.{◌≡◌, ℕ, suc, Bool, T, ◌⊎◌, ◌↔◌, Some, None, Option, sym, refl, subst, inl, inr}
 use mathlib.Core.Logic.Iff
-use Rattle.temporal.specs.Formula.{Formula, Run, Holds}
+use Rattle.temporal.specs.Formula.{Run, Holds}
 use Rattle.temporal.specs.Formula.Formula.{const, reading}
 use Rattle.temporal.proofs.Meaning.{stepping_keeps_meaning, closing_keeps_meaning}
 use Rattle.progression.specs.Readings.{reading_or, known_at, assigned, closed_by, ReadingsKeepMeaning}

@@ -1,5 +1,5 @@
 -- The laws of rules.
-use Rattle.std.proofs.Common.{◌≡◌, ℕ, zero, suc, ◌+◌, ◌-◌, ◌<◌, ◌≤◌, Bool, true, false, cond, ltb, ◌⊎◌, List, [], ◌∷◌, ◌++◌, length, get_or, take, Some, None, sym, refl, ap, ◌∙◌, subst, inl, inr, arith, ltb-true, le-ltb, lt-ltb}
+use Rattle.std.proofs.Common.{◌≡◌, ℕ, zero, suc, ◌+◌, ◌-◌, ◌<◌, ◌≤◌, Bool, true, false, cond, ◌⊎◌, List, [], ◌∷◌, ◌++◌, length, get_or, take, Some, None, sym, refl, ap, ◌∙◌, subst, inl, inr, arith, ltb-true, le-ltb, lt-ltb}
 use mathlib.Core.Bool.{false≢true}
 use Rattle.std.proofs.lemmas.List.{take_more, take_all}
 use Rattle.temporal.specs.Formula.{Formula}
@@ -8,7 +8,7 @@ use Rattle.temporal.specs.Obligation.{Open as OpenIn, Closed, Obligation}
 use Rattle.temporal.specs.Parts.{In, Part as PartOf, parts}
 use Rattle.parts.specs.Places.{node, place, formula, formulas, blank, short, Sound}
 use Rattle.rule.specs.Rules.{plain, plain_part, all_plain, misfit, PlainMeans}
-use Rattle.rule.specs.declared.misfit.Misfit.TheVariants.{Signals, Parts, Leaf}
+use Rattle.rule.specs.declared.misfit.Misfit.TheVariants.{Parts, Leaf}
 use Rattle.parts.specs.declared.part.Unary.TheVariants.{Not, Next, Finally, Globally}
 use Rattle.parts.specs.declared.part.Binary.TheVariants.{Join, Until}
 use Rattle.parts.specs.declared.part.Part.{Part}

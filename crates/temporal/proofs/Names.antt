@@ -1,5 +1,5 @@
 -- A step by constants brings in no signal and no open reading, shortening no signal.
-use Rattle.std.proofs.Common.{◌≡◌, ℕ, Bool, not, ◌⊎◌, sym, refl, ap, ◌∙◌, ap₂, inl, inr, arith}
+use Rattle.std.proofs.Common.{◌≡◌, ℕ, Bool, not, ◌⊎◌, refl, ap, ap₂, inl, inr, arith}
 use Rattle.temporal.specs.Formula.{Op, Formula}
 use Rattle.temporal.specs.Formula.Op.{and, or}
 use Rattle.temporal.specs.Formula.Formula.{const, signal, reading, neg, join, next, finally, globally, until}

@@ -3,8 +3,8 @@ use Rattle.std.proofs.Common.{◌≡◌, ℕ, suc, ◌<◌, Bool, ◌⊎◌, sym
 use Rattle.temporal.specs.Formula.{Formula}
 use Rattle.temporal.specs.Formula.Formula.{const, signal, reading, neg, join, next, finally, globally, until}
 use Rattle.temporal.specs.Shorten.{negˢ, joinˢ, nextˢ, finallyˢ, globallyˢ, untilˢ, shorten}
-use Rattle.temporal.specs.Progress.{step, close, Closes}
-use Rattle.temporal.specs.Obligation.{Open, Closed, Clear, Shortened, Obligation, Never, Proper}
+use Rattle.temporal.specs.Progress.{step, close}
+use Rattle.temporal.specs.Obligation.{Open, Closed, Clear, Shortened, Never, Proper}
 use Rattle.temporal.specs.Laws.{ShortenedIsOwed, ObligationIsProper, ObligationsLast, ClosingMeetsStepping, ClosingLeavesAlone}
 use Rattle.temporal.proofs.Proper.{widened, open_in, step_proper, neg_proper, join_proper, next_proper, finally_proper, globally_proper, until_proper, close_same, close_step}
 

@@ -1,5 +1,5 @@
 -- The walk lists each part once; closing adds none, and a step makes at most two for each.
-use Rattle.std.proofs.Common.{◌≡◌, ℕ, ◌*◌, ◌<◌, ◌≤◌, Bool, true, false, cond, ◌⊎◌, List, [], ◌++◌, map, length, sym, refl, ◌∙◌, subst, inl, inr, arith, length-append}
+use Rattle.std.proofs.Common.{◌≡◌, ℕ, ◌*◌, ◌≤◌, Bool, ◌⊎◌, List, [], ◌++◌, map, length, sym, refl, ◌∙◌, subst, inl, inr, arith, length-append}
 use lib.ListN.{length-map}
 use Rattle.temporal.specs.Formula.{Op, Formula}
 use Rattle.temporal.specs.Formula.Op.{and, or}

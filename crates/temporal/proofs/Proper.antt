@@ -1,5 +1,5 @@
 -- Proper formulas: what keeps them so, and how closing and stepping meet on them.
-use Rattle.std.proofs.Common.{◌≡◌, ℕ, ◌<◌, sym, refl, ap, ◌∙◌, ap₂, subst₂, inl, inr}
+use Rattle.std.proofs.Common.{◌≡◌, ℕ, sym, refl, ap, ◌∙◌, ap₂, subst₂, inl, inr}
 use Rattle.temporal.specs.Formula.{Op, Formula}
 use Rattle.temporal.specs.Formula.Op.{and, or}
 use Rattle.temporal.specs.Formula.Formula.{const, signal, reading, neg, join, next, finally, globally, until}

@@ -1,5 +1,5 @@
 -- The laws that shortening, progression and closing obey.
-use Rattle.std.specs.Prelude.{◌≡◌, ℕ, suc, ◌+◌, ◌*◌, ◌<◌, ◌≤◌, Bool, true, false, T, ◌⊎◌, ◌↔◌, List, [], ◌∷◌, ◌++◌, length}
+use Rattle.std.specs.Prelude.{◌≡◌, ℕ, suc, ◌*◌, ◌<◌, ◌≤◌, Bool, true, false, T, ◌⊎◌, ◌↔◌, List, [], ◌∷◌, ◌++◌, length}
 use Rattle.temporal.specs.Formula.{Op, Formula, Run, Holds}
 use Rattle.temporal.specs.Formula.Formula.{const, reading, neg, join, finally, globally, until}
 use Rattle.temporal.specs.Shorten.{negˢ, joinˢ, shorten}

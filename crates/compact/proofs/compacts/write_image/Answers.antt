@@ -1,4 +1,4 @@
-use Rattle.std.proofs.Common.{◌≡◌, ◌-◌, ◌*◌, ◌<◌, ◌≤◌, length, get_or, sym, refl, ap, ◌∙◌, subst, arith}
+use Rattle.std.proofs.Common.{◌-◌, ◌*◌, length, sym, ap, ◌∙◌, subst, arith}
 use Rattle.temporal.specs.Parts.{parts}
 use Rattle.parts.specs.Places.{in_use, Grown}
 use Rattle.progression.specs.Passes.{Imaged}

@@ -1,4 +1,4 @@
-use Rattle.std.proofs.Common.{◌≡◌, ◌<◌, ◌≤◌, length, get_or, sym, refl, ◌∙◌, arith}
+use Rattle.std.proofs.Common.{get_or, sym, ◌∙◌, arith}
 use Rattle.parts.specs.Places.{in_use, formulas, blank, Grown}
 use Rattle.parts.specs.declared.part.Part.TheVariants.{One, Two}
 use Rattle.parts.proofs.Making.{used_length}

@@ -1,6 +1,6 @@
-use Rattle.std.proofs.Common.{◌≡◌, ◌<◌, ◌≤◌, length, take, vec_items, sym, ap, ◌∙◌, subst, arith}
+use Rattle.std.proofs.Common.{length, take, vec_items, sym, ap, ◌∙◌, subst, arith}
 use Rattle.temporal.specs.Parts.{parts, walk}
-use Rattle.parts.specs.Places.{formula, formulas, Sound}
+use Rattle.parts.specs.Places.{formula, Sound}
 use Rattle.parts.specs.Tables.{parts_of}
 use Rattle.parts.proofs.Interned.{front}
 use Rattle.parts.proofs.Making.{used_length}

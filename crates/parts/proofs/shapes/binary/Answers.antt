@@ -1,5 +1,3 @@
-use Rattle.std.proofs.Common.{sym, subst}
-use Rattle.parts.specs.Places.{formula, twoˢ, Shapes}
 use Rattle.parts.proofs.Shaping.{until_way}
 use Rattle.parts.proofs.shapes.binary.Goals as goal
 

@@ -1,4 +1,4 @@
-use Rattle.std.proofs.Common.{◌≡◌, ◌+◌, ◌*◌, ◌<◌, ◌≤◌, length, arith}
+use Rattle.std.proofs.Common.{◌*◌, arith}
 use Rattle.parts.specs.Places.{in_use}
 use Rattle.parts.proofs.Places.{grown_none, grown_on}
 use Rattle.parts.proofs.Making.{used_length}

@@ -1,4 +1,4 @@
-use Rattle.std.proofs.Common.{◌≡◌, ◌*◌, ◌≤◌, length, vec_len}
+use Rattle.std.proofs.Common.{◌≡◌, ◌*◌, ◌≤◌, vec_len}
 use Rattle.parts.specs.Places.{in_use, Sound, Grown}
 use Rattle.progression.specs.Passes.{Imaged}
 use Rattle.progression.proofs.pass.rewrite_all.Given as goal

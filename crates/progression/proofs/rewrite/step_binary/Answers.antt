@@ -1,4 +1,4 @@
-use Rattle.std.proofs.Common.{◌≡◌, ◌<◌, ◌≤◌, length, sym, ap, ◌∙◌, ap₂, arith}
+use Rattle.std.proofs.Common.{◌<◌, length, sym, ap, ◌∙◌, ap₂, arith}
 use Rattle.temporal.specs.Formula.Op.{or}
 use Rattle.temporal.specs.Shorten.{joinˢ}
 use Rattle.parts.specs.Places.{formula, in_use}

@@ -1,4 +1,4 @@
-use Rattle.std.proofs.Common.{◌<◌, ◌≤◌, length, arith}
+use Rattle.std.proofs.Common.{arith}
 use Rattle.rule.proofs.Ruling.{plain_more, plain_fails, plain_all}
 use Rattle.rule.proofs.rules.are_plain.Goals as goal
 

@@ -1,4 +1,4 @@
-use Rattle.std.proofs.Common.{◌≤◌, length, sym, refl, ap, arith}
+use Rattle.std.proofs.Common.{length, refl, ap, arith}
 use Rattle.parts.specs.Places.{in_use, formula}
 use Rattle.parts.specs.Tables.{parts_of}
 use Rattle.parts.proofs.Places.{formulas_length}

@@ -1,6 +1,6 @@
-use Rattle.std.proofs.Common.{◌-◌, ◌<◌, ◌≤◌, length, sym, refl, ap, ◌∙◌, arith}
+use Rattle.std.proofs.Common.{length, ap, ◌∙◌, arith}
 use Rattle.temporal.specs.Parts.{parts}
-use Rattle.parts.specs.Places.{in_use, formulas}
+use Rattle.parts.specs.Places.{in_use}
 use Rattle.parts.specs.Tables.{parts_of}
 use Rattle.compact.specs.Compacts.{formula_of}
 use Rattle.parts.proofs.Places.{formulas_length}

@@ -1,4 +1,4 @@
-use Rattle.std.proofs.Common.{◌<◌, ◌≤◌, ◌∙◌, arith}
+use Rattle.std.proofs.Common.{◌∙◌, arith}
 use Rattle.compact.proofs.Compacting.{counted}
 use Rattle.compact.proofs.compact.Compact.count.Goals as goal
 

@@ -1,4 +1,4 @@
-use Rattle.std.proofs.Common.{◌≡◌, ◌-◌, ◌<◌, ◌≤◌, length, take, None, vec_items, sym, ap, ◌∙◌, subst, arith}
+use Rattle.std.proofs.Common.{◌≡◌, ◌-◌, ◌<◌, length, take, None, vec_items, ap, ◌∙◌, subst, arith}
 use Rattle.temporal.specs.Earliest.{earliest}
 use Rattle.compact.specs.Ticks.{Ticked}
 use Rattle.compact.specs.Compacts.{compact_parts}

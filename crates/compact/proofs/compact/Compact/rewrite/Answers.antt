@@ -1,4 +1,4 @@
-use Rattle.std.proofs.Common.{◌<◌, ◌≤◌, length, take, ap, ◌∙◌, arith}
+use Rattle.std.proofs.Common.{length, take, ap, ◌∙◌, arith}
 use Rattle.parts.specs.Places.{in_use}
 use Rattle.parts.specs.Tables.{parts_of}
 use Rattle.compact.specs.Compacts.{formula_of}

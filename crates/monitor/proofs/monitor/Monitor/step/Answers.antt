@@ -1,4 +1,4 @@
-use Rattle.std.proofs.Common.{◌≡◌, ◌^◌, ◌<◌, ◌≤◌, true, false, leb, length, sym, refl, ap, ◌∙◌, subst, arith}
+use Rattle.std.proofs.Common.{◌≡◌, ◌^◌, ◌<◌, ◌≤◌, false, leb, length, ap, ◌∙◌, subst, arith}
 use Rattle.temporal.specs.Parts.{parts, final}
 use Rattle.temporal.specs.Progress.{step}
 use Rattle.parts.specs.Places.{formulas}

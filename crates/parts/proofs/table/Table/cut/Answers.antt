@@ -1,4 +1,4 @@
-use Rattle.std.proofs.Common.{◌≡◌, ◌≤◌, length, take, vec_items, sym, subst, arith}
+use Rattle.std.proofs.Common.{◌≤◌, take, vec_items, sym, subst, arith}
 use Rattle.std.proofs.lemmas.List.{take-take, length-take}
 use Rattle.parts.specs.Places.{Sound}
 use Rattle.parts.specs.Tables.{parts_of}

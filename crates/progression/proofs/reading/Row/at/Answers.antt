@@ -1,4 +1,4 @@
-use Rattle.std.proofs.Common.{◌≡◌, sym, ap, arith}
+use Rattle.std.proofs.Common.{sym, ap}
 use Rattle.std.proofs.lemmas.List.{get_or_past}
 use Rattle.progression.specs.Readings.{value}
 use Rattle.progression.specs.declared.reading.Reading.TheVariants.{Open}

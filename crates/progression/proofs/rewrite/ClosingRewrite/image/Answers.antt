@@ -1,4 +1,4 @@
-use Rattle.std.proofs.Common.{◌≡◌, ◌<◌, ◌≤◌, length, sym, refl, ap, arith}
+use Rattle.std.proofs.Common.{refl, ap, arith}
 use Rattle.parts.specs.Places.{formula, in_use}
 use Rattle.temporal.specs.Progress.{close}
 use Rattle.progression.specs.Readings.{closed_by, reading_or}

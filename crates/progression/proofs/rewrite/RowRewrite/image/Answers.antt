@@ -1,5 +1,4 @@
-use Rattle.std.proofs.Common.{◌≡◌, ◌<◌, ◌≤◌, length, sym, refl, ap, arith}
-use Rattle.parts.specs.Places.{in_use}
+use Rattle.std.proofs.Common.{refl, ap, arith}
 use Rattle.temporal.specs.Progress.{step}
 use Rattle.progression.specs.Readings.{assigned, reading_or}
 use Rattle.parts.specs.declared.part.Part.TheVariants.{Const, Open}

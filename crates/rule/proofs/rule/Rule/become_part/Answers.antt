@@ -1,4 +1,4 @@
-use Rattle.std.proofs.Common.{◌≡◌, ◌≤◌, length, vec_items, sym, refl, ap, ◌∙◌, arith}
+use Rattle.std.proofs.Common.{length, vec_items, sym, refl, ap, ◌∙◌, arith}
 use Rattle.temporal.specs.Parts.{parts}
 use Rattle.parts.specs.Places.{in_use, formula, formulas}
 use Rattle.rule.specs.Rules.{all_plain}

@@ -1,4 +1,4 @@
-use Rattle.std.proofs.Common.{◌≡◌, true, false, length, refl, ap, ◌∙◌, arith}
+use Rattle.std.proofs.Common.{false, length, ap, ◌∙◌, arith}
 use Rattle.temporal.specs.Parts.{parts}
 use Rattle.rule.specs.Rules.{all_plain}
 use Rattle.rule.proofs.Ruling.{never_parts}
