@@ -1,9 +1,9 @@
 -- The colon of a post line.
-use Rattle.std.proofs.Common.{◌≡◌, ℕ, suc, ◌+◌, ◌-◌, ◌<◌, ◌≤◌, Bool, true, false, cond, not, eqb, List, [], ◌∷◌, length, get_or, take, drop, Some, None, codes, Option, sym, refl, ap, ◌∙◌, ⊎_elim, arith}
+use Rattle.std.proofs.Common.{◌≡◌, ℕ, suc, ◌+◌, ◌-◌, ◌<◌, ◌≤◌, Bool, true, false, cond, not, eqb, List, [], ◌∷◌, length, get_or, take, drop, Some, None, codes, sym, refl, ap, ◌∙◌, ⊎_elim, arith}
 use Rattle.std.proofs.lemmas.List.{drop-drop, drop_more, drop_all, length-drop}
 use Rattle.std.proofs.lemmas.Bool.{cases_lt, ne_eqb}
 use Rattle.words.specs.Texts.{front}
-use Rattle.roster.specs.Entries.{PostLine, begins_with, behind_colon, onto, parted, pieces, post_line}
+use Rattle.roster.specs.Entries.{begins_with, behind_colon, onto, parted, pieces, post_line}
 use Rattle.roster.specs.Colons.{colon_at}
 use Rattle.roster.proofs.Pieces.{one_piece, first_piece, some_piece}
 

@@ -1,10 +1,9 @@
 -- Entries that grow.
-use Rattle.std.proofs.Common.{◌≡◌, ℕ, Bool, true, false, cond, List, [], ◌∷◌, ◌++◌, map, Some, None, sym, refl, ap, ◌∙◌}
+use Rattle.std.proofs.Common.{◌≡◌, ℕ, Bool, cond, List, [], ◌∷◌, ◌++◌, map, Some, None, ap, ◌∙◌}
 use Rattle.std.proofs.lemmas.List.{map-append}
 use Rattle.holds.specs.Cases.{Hold, Cases, first_case}
 use Rattle.holds.proofs.Cases.{past_fits}
-use Rattle.words.specs.Named.{name_bytes}
-use Rattle.roster.specs.Entries.{Entries, Owned, with_post, with_signal}
+use Rattle.roster.specs.Entries.{Entries, Owned, with_post}
 use Rattle.roster.specs.Rosters.{owned, post_name}
 use Rattle.roster.specs.declared.roster.Post.{Post}
 use Rattle.roster.specs.declared.roster.Signal.{Signal}

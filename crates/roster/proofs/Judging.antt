@@ -1,5 +1,5 @@
 -- Texts that are judged.
-use Rattle.std.proofs.Common.{◌≡◌, ℕ, Bool, true, false, cond, not, ◌||◌, leb, List, [], ◌∷◌, ◌++◌, map, length, is_some, IsErrAnd, Some, None, Ok, Err, Option, Result, sym, refl, ap, ◌∙◌, subst}
+use Rattle.std.proofs.Common.{◌≡◌, ℕ, Bool, true, false, cond, not, ◌||◌, leb, List, ◌∷◌, ◌++◌, length, is_some, IsErrAnd, Some, None, Ok, Err, Result, sym, ap, ◌∙◌, subst}
 use Rattle.std.proofs.lemmas.Result.{err_from_is_err_and}
 use Rattle.holds.specs.Cases.{Hold, Cases, first_case, on_line}
 use Rattle.holds.proofs.Cases.{front_fits, past_fits}

@@ -1,5 +1,5 @@
 -- Names that stand on a sheet.
-use Rattle.std.proofs.Common.{◌≡◌, ℕ, true, false, ◌||◌, List, [], ◌∷◌, map, sym, refl, ap, ◌∙◌}
+use Rattle.std.proofs.Common.{◌≡◌, ℕ, true, false, ◌||◌, List, [], ◌∷◌, map, refl, ap, ◌∙◌}
 use Rattle.words.specs.Named.{name_bytes}
 use Rattle.words.specs.Names.{among}
 use Rattle.roster.specs.Entries.{Entries, signal_names, stands}

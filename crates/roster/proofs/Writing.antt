@@ -1,10 +1,9 @@
 -- A post line is its entries, written out.
-use Rattle.std.proofs.Common.{◌≡◌, ℕ, zero, suc, ◌+◌, ◌<◌, ◌≤◌, Bool, true, false, cond, eqb, List, [], ◌∷◌, ◌++◌, map, length, take, drop, Some, None, codes, Option, sym, refl, ap, ◌∙◌, subst, append_assoc, arith}
-use Rattle.std.specs.Str.{bytes_eq}
+use Rattle.std.proofs.Common.{◌≡◌, ℕ, suc, ◌+◌, ◌<◌, ◌≤◌, Bool, true, false, cond, eqb, List, [], ◌∷◌, ◌++◌, length, take, drop, Some, None, codes, sym, refl, ap, ◌∙◌, subst, append_assoc, arith}
 use Rattle.std.proofs.lemmas.Slice.Eq.{bytes_eq-Decides}
 use Rattle.std.proofs.lemmas.List.{append-nil, length_push, take-append-drop}
 use Rattle.std.proofs.lemmas.Bool.{eq-eqb, eqb-true, ne_eqb}
-use Rattle.roster.specs.Entries.{Entries, Owned, PostLine, after_post, begins_with, behind_colon, onto, parted, pieces, post_line, with_line, with_post, with_signal, with_signals}
+use Rattle.roster.specs.Entries.{Entries, Owned, PostLine, after_post, begins_with, onto, parted, pieces, post_line, with_line, with_post, with_signal, with_signals}
 use Rattle.roster.specs.Written.{behind, lines_from, owned_names, post_text, written}
 use Rattle.roster.proofs.Pieces.{some_piece}
 

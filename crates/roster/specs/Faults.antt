@@ -1,8 +1,6 @@
 -- What each fault of a sheet answers: its number, its line and, for 9 and 10, its word.
 use Rattle.holds.specs.Cases.{Hold, plain, on_line, on_word}
-use Rattle.roster.specs.declared.fault.WordFault.{WordFault}
 use Rattle.roster.specs.declared.fault.WordFault.TheVariants.{Misplaced, Unknown}
-use Rattle.roster.specs.declared.fault.RuleFault.{RuleFault}
 use Rattle.roster.specs.declared.fault.RuleFault.TheVariants.{Long, Words, Large}
 use Rattle.roster.specs.declared.fault.SheetFault.{SheetFault}
 use Rattle.roster.specs.declared.fault.SheetFault.TheVariants.{Whole, Byte, Form, Posts, Name, Again, Signals, Rule}

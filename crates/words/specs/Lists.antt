@@ -1,5 +1,5 @@
 -- The words that were cut from a text.
-use Rattle.std.specs.Prelude.{◌≡◌, ℕ, List, [], length, take, Some, None, Ok, Err, vec_items, Option, Result}
+use Rattle.std.specs.Prelude.{◌≡◌, List, length, take, Some, None, Ok, Err, vec_items, Option, Result}
 use Rattle.words.specs.declared.word.Word.{Word}
 use Rattle.words.specs.declared.wordlist.WordList.{WordList}
 

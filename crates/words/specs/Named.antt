@@ -1,5 +1,5 @@
 -- The bytes of a name, and what was made of a text.
-use Rattle.std.specs.Prelude.{◌≡◌, ℕ, true, false, List, take, Some, None, Option}
+use Rattle.std.specs.Prelude.{◌≡◌, ℕ, false, List, take, Some, None, Option}
 use Rattle.words.specs.Names.{is_name}
 use Rattle.words.specs.declared.name.Name.{Name}
 

@@ -10,7 +10,7 @@ use Rattle.reader.proofs.building.put_connective.Goals as goal
 pub returns-in-Implies : goal.returns-in-Implies
 returns-in-Implies c =
     let ps = parts_of c.args.table.now in
-    let negated = c.put-unary-not-x.ensures in
+    let negated = c.put_unary-not_x.ensures in
     let right = stood 1 _ _ _ _ c.args.y negated c.requires.y in
-    made_then 2 1 1 ps _ _ _ _ _ _ _ (omega arith) negated c.put-binary.ensures
+    made_then 2 1 1 ps _ _ _ _ _ _ _ (omega arith) negated c.put_binary.ensures
     (ap₂ (joinˢ or) negated.stands.formula_is right ∙ ap (λ o. connectˢ o (formula ps c.args.x) (formula ps c.args.y)) (sym c.in-Implies.is))

@@ -17,11 +17,11 @@ stops n i ws d l e =
 
 pub loop-i-preserved : goal.loop-i-preserved
 loop-i-preserved c =
-    c.loop-i.invariant ∙ passes c.args.signals c.loop-i.i c.args.words.now _ c.loop-i-test.true c.if-is-foreign.ensures
+    c.loop-i.invariant ∙ passes c.args.signals c.loop-i.i c.args.words.now _ c.loop-i-test.true c.if-is_foreign.ensures
 
-pub returns-then-is-foreign : goal.returns-then-is-foreign
-returns-then-is-foreign c =
-    sym (c.loop-i.invariant ∙ stops c.args.signals c.loop-i.i c.args.words.now _ c.loop-i-test.true c.if-is-foreign.ensures)
+pub returns-then-is_foreign : goal.returns-then-is_foreign
+returns-then-is_foreign c =
+    sym (c.loop-i.invariant ∙ stops c.args.signals c.loop-i.i c.args.words.now _ c.loop-i-test.true c.if-is_foreign.ensures)
 
 pub returns : goal.returns
 returns c =

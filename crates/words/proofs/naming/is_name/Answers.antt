@@ -3,5 +3,5 @@ use Rattle.std.proofs.lemmas.Bool.{eqb-true}
 use Rattle.words.proofs.Lists.{nothing_named}
 use Rattle.words.proofs.naming.is_name.Goals as goal
 
-pub returns-then-is-empty : goal.returns-then-is-empty
-returns-then-is-empty c = sym (nothing_named _ (eqb-true _ _ (sym c.if-is-empty.ensures)))
+pub returns-then-is_empty : goal.returns-then-is_empty
+returns-then-is_empty c = sym (nothing_named _ (eqb-true _ _ (sym c.if-is_empty.ensures)))

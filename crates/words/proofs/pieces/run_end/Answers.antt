@@ -5,13 +5,13 @@ use Rattle.words.proofs.pieces.run_end.Goals as goal
 
 pub loop-end-preserved : goal.loop-end-preserved
 loop-end-preserved c =
-    let e = front_on name_byte c.args.text.now c.loop-end.end c.loop-end-test.true (sym c.if-is-name-byte.ensures) in
+    let e = front_on name_byte c.args.text.now c.loop-end.end c.loop-end-test.true (sym c.if-is_name_byte.ensures) in
     let i = c.loop-end.invariant.0 in
     (omega arith, omega arith)
 
-pub returns-else-is-name-byte : goal.returns-else-is-name-byte
-returns-else-is-name-byte c =
-    let e = front_stops name_byte c.args.text.now c.loop-end.end c.loop-end-test.true (sym c.if-is-name-byte.ensures) in
+pub returns-else-is_name_byte : goal.returns-else-is_name_byte
+returns-else-is_name_byte c =
+    let e = front_stops name_byte c.args.text.now c.loop-end.end c.loop-end-test.true (sym c.if-is_name_byte.ensures) in
     let i = c.loop-end.invariant.0 in
     record { value = omega arith; bound = c.loop-end.invariant.1 }
 

@@ -7,11 +7,11 @@ use Rattle.reader.proofs.reader.Reader.reduce.Goals as goal
 pub loop-frame-preserved-in-Before : goal.loop-frame-preserved-in-Before
 loop-frame-preserved-in-Before c =
     let popped = popped_is (vec_items c.loop-frame.self.frames) (vec_items c.pop.new.self) _ _ c.in-Some.ensures.items c.in-Before.is in
-    let turn = turn_sign c.args.bound _ _ _ _ _ _ c.loop-frame.invariant.0 _ popped c.put-unary-x.ensures in
+    let turn = turn_sign c.args.bound _ _ _ _ _ _ c.loop-frame.invariant.0 _ popped c.put_unary-x.ensures in
     turn_on c.args.bound _ _ _ _ _ _ _ _ turn c.loop-frame.invariant.1 c.loop-frame.invariant.2
 
-pub put-connective-x-requires : goal.put-connective-x-requires
-put-connective-x-requires c =
+pub put_connective-x-requires : goal.put_connective-x-requires
+put_connective-x-requires c =
     let popped = popped_is (vec_items c.loop-frame.self.frames) (vec_items c.pop.new.self) _ _ c.in-Some.ensures.items c.in-Between.is in
     let left = left_inside _ _ _ _ _ _ c.loop-frame.invariant.0 popped in
     let made = c.loop-frame.invariant.1 in
@@ -22,7 +22,7 @@ pub loop-frame-preserved : goal.loop-frame-preserved
 loop-frame-preserved c =
     let popped = popped_is (vec_items c.loop-frame.self.frames) (vec_items c.pop.new.self) _ _ c.in-Some.ensures.items c.in-Between.is in
     let tight : c.args.bound ≤ level c.in-Between.by = omega arith in
-    let turn = turn_join c.args.bound _ _ _ _ _ _ c.loop-frame.invariant.0 c.in-Between.by c.in-Between.left tight popped c.put-connective-x.ensures in
+    let turn = turn_join c.args.bound _ _ _ _ _ _ c.loop-frame.invariant.0 c.in-Between.by c.in-Between.left tight popped c.put_connective-x.ensures in
     turn_on c.args.bound _ _ _ _ _ _ _ _ turn c.loop-frame.invariant.1 c.loop-frame.invariant.2
 
 pub returns-then-level-bound : goal.returns-then-level-bound
@@ -30,7 +30,7 @@ returns-then-level-bound c =
     let ps = parts_of c.loop-frame.self.table in
     let gs = vec_items c.loop-frame.self.frames in
     let taken = c.in-Some.ensures.items in
-    let back : gs ≡ vec_items c.push-reserved.new.self = cc in
+    let back : gs ≡ vec_items c.push_reserved.new.self = cc in
     let popped = popped_is gs (vec_items c.pop.new.self) _ _ taken c.in-Between.is in
     let loose : level c.in-Between.by < c.args.bound = omega arith in
     let stays = stays_join c.args.bound ps gs _ c.loop-frame.x c.in-Between.by c.in-Between.left loose popped in
@@ -41,7 +41,7 @@ returns-in-Bracket c =
     let ps = parts_of c.loop-frame.self.table in
     let gs = vec_items c.loop-frame.self.frames in
     let taken = c.in-Some.ensures.items in
-    let back : gs ≡ vec_items c.push-reserved-in-Bracket.new.self = cc in
+    let back : gs ≡ vec_items c.push_reserved-in-Bracket.new.self = cc in
     let popped = popped_is gs (vec_items c.pop.new.self) _ _ taken c.in-Bracket.is in
     let stays = stays_open c.args.bound ps gs _ c.loop-frame.x popped in
     reduced_here c.args.bound (parts_of c.args.self.now.table) (vec_items c.args.self.now.frames) c.args.start ps gs _ c.loop-frame.x back c.loop-frame.invariant.0 c.loop-frame.invariant.1 (stays ∙ c.loop-frame.invariant.2)

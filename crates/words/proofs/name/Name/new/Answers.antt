@@ -1,4 +1,4 @@
-use Rattle.std.proofs.Common.{◌≡◌, ◌<◌, ◌≤◌, true, length, sym, ap, ◌∙◌, arith, length-set, rules}
+use Rattle.std.proofs.Common.{◌≡◌, ◌<◌, true, length, sym, ap, ◌∙◌, arith, length-set, rules}
 use Rattle.words.specs.Names.{is_name}
 use Rattle.words.proofs.Lists.{copy_all, copy_more, name_short}
 use Rattle.words.proofs.name.Name.new.Goals as goal
@@ -9,11 +9,11 @@ loop-i-preserved c =
     let room : c.loop-i.i < length c.loop-i.bytes = search rules in
     (simp length-set c.loop-i.invariant.0, copy_more c.loop-i.bytes c.args.text.now c.loop-i.i room here c.loop-i.invariant.1)
 
-pub invariant-of-result : goal.invariant-of-result
-invariant-of-result c =
-    let named : is_name c.args.text.now ≡ true = sym c.if-not-is-name.ensures in
+pub invariant_of-result : goal.invariant_of-result
+invariant_of-result c =
+    let named : is_name c.args.text.now ≡ true = sym c.if-not-is_name.ensures in
     let copied = copy_all c.loop-i.bytes c.args.text.now c.loop-i.i (omega arith) (omega arith) c.loop-i.invariant.1 in
-    (name_short c.args.text.now named, (ap is_name copied ∙ named, tt))
+    record { short = name_short c.args.text.now named; named = ap is_name copied ∙ named }
 
 pub returns : goal.returns
 returns c = copy_all c.loop-i.bytes c.args.text.now c.loop-i.i (omega arith) (omega arith) c.loop-i.invariant.1

@@ -8,12 +8,12 @@ returns c =
     let xs = vec_items c.args.self.now.words in
     let room : length xs < 200 = omega (arith, c.args.self.now.words.ok.0, c.len.ensures) in
     record {
-      words = λ ws h. record { words_are = c.push-reserved.ensures.items ∙ grows ws xs c.args.word h.words_are room; count_is = omega (arith, h.count_is, length_push ws c.args.word) };
+      words = λ ws h. record { words_are = c.push_reserved.ensures.items ∙ grows ws xs c.args.word h.words_are room; count_is = omega (arith, h.count_is, length_push ws c.args.word) };
       count = refl;
     }
 
-pub returns-then-len-ge-MOST-WORDS : goal.returns-then-len-ge-MOST-WORDS
-returns-then-len-ge-MOST-WORDS c =
+pub returns-then-len-ge-MOST_WORDS : goal.returns-then-len-ge-MOST_WORDS
+returns-then-len-ge-MOST_WORDS c =
     let xs = vec_items c.args.self.now.words in
     let full : 200 ≤ length xs = omega (arith, c.args.self.now.words.ok.0, c.len.ensures) in
     record {
