@@ -5,13 +5,13 @@ use Rattle.listing.proofs.tick.whole_reading.Goals as goal
 pub loop-at-init : goal.loop-at-init
 loop-at-init c = reading_none c.args.line.now
 
-pub overflow-mul-reading : goal.overflow-mul-reading
-overflow-mul-reading c =
+pub overflow_mul-reading : goal.overflow_mul-reading
+overflow_mul-reading c =
     let h = no_overflow c.args.line.now c.loop-at.at c.loop-at.reading c.loop-at-test.true c.loop-at.auto.at c.loop-at.invariant c.if-b-ne32.true _ refl c.requires in
     omega arith
 
-pub overflow-add-reading : goal.overflow-add-reading
-overflow-add-reading c =
+pub overflow_add-reading : goal.overflow_add-reading
+overflow_add-reading c =
     let h = no_overflow c.args.line.now c.loop-at.at c.loop-at.reading c.loop-at-test.true c.loop-at.auto.at c.loop-at.invariant c.if-b-ne32.true c.from.result c.from.ensures c.requires in
     omega arith
 

@@ -3,8 +3,8 @@ use Rattle.grammar.specs.Scan.{unknown}
 use Rattle.sheet.proofs.Wording.{misplaced_within, unknown_within, unknown_fits}
 use Rattle.sheet.proofs.readings.read_words.Goals as goal
 
-pub overflow-add-word : goal.overflow-add-word
-overflow-add-word c =
+pub overflow_add-word : goal.overflow_add-word
+overflow_add-word c =
     let h = misplaced_within c.args.words.now c.in-Err.fault.word c.in-Err.ensures in
     let few = c.requires in
     omega arith
@@ -12,8 +12,8 @@ overflow-add-word c =
 found : (c : goal.In-Some) → unknown c.args.signals c.args.words.now ≡ Some c.in-Some.at
 found c = sym c.unknown.ensures ∙ c.in-Some.is
 
-pub overflow-add-word-in-Some : goal.overflow-add-word-in-Some
-overflow-add-word-in-Some c =
+pub overflow_add-word-in-Some : goal.overflow_add-word-in-Some
+overflow_add-word-in-Some c =
     let h = unknown_within c.args.signals c.args.words.now c.in-Some.at (found c) in
     let few = c.requires in
     omega arith

@@ -7,24 +7,24 @@ use Rattle.sheet.proofs.Nothing.{nothing_read}
 use Rattle.sheet.proofs.Wholes.{read_exit, said_is, whole_empty, whole_good, whole_long, whole_unended}
 use Rattle.sheet.proofs.blank.Blank.read.Goals as goal
 
-pub returns-then-is-empty : goal.returns-then-is-empty
-returns-then-is-empty c = whole_empty c.args.text.now c.if-is-empty.ensures
+pub returns-then-is_empty : goal.returns-then-is_empty
+returns-then-is_empty c = whole_empty c.args.text.now c.if-is_empty.ensures
 
-pub returns-then-text-gt-MOST-BYTES : goal.returns-then-text-gt-MOST-BYTES
-returns-then-text-gt-MOST-BYTES c = whole_long c.args.text.now c.if-is-empty.ensures c.if-text-gt-MOST-BYTES.true
+pub returns-then-text-gt-MOST_BYTES : goal.returns-then-text-gt-MOST_BYTES
+returns-then-text-gt-MOST_BYTES c = whole_long c.args.text.now c.if-is_empty.ensures c.if-text-gt-MOST_BYTES.true
 
 pub returns-then-text-ne10 : goal.returns-then-text-ne10
-returns-then-text-ne10 c = whole_unended c.args.text.now c.if-is-empty.ensures c.if-text-gt-MOST-BYTES.false c.if-text-ne10.true
+returns-then-text-ne10 c = whole_unended c.args.text.now c.if-is_empty.ensures c.if-text-gt-MOST_BYTES.false c.if-text-ne10.true
 
-pub returns-in-err-read-lines : goal.returns-in-err-read-lines
-returns-in-err-read-lines c =
-    let good = whole_good c.args.text.now c.if-is-empty.ensures c.if-text-gt-MOST-BYTES.false c.if-text-ne10.false _ (nothing_read c.args.self) in
-    read_exit c.args.text.now _ _ c.from-residual.ensures.1 (good ∙ c.in-err-read-lines.ensures.draft)
+pub returns-in_err-read_lines : goal.returns-in_err-read_lines
+returns-in_err-read_lines c =
+    let good = whole_good c.args.text.now c.if-is_empty.ensures c.if-text-gt-MOST_BYTES.false c.if-text-ne10.false _ (nothing_read c.args.self) in
+    read_exit c.args.text.now _ _ c.from_residual.ensures.1 (good ∙ c.in_err-read_lines.ensures.draft)
 
 pub returns : goal.returns
 returns c =
-    let good = whole_good c.args.text.now c.if-is-empty.ensures c.if-text-gt-MOST-BYTES.false c.if-text-ne10.false _ (nothing_read c.args.self) in
-    let drafted = c.in-ok-read-lines.ensures.draft in
+    let good = whole_good c.args.text.now c.if-is_empty.ensures c.if-text-gt-MOST_BYTES.false c.if-text-ne10.false _ (nothing_read c.args.self) in
+    let drafted = c.in_ok-read_lines.ensures.draft in
     let d = draft_so_far c.args.self.reading in
     let ls = lines c.args.text.now in
     let empty = nothing_read c.args.self in

@@ -6,17 +6,17 @@ use Rattle.sheet.specs.Sheets.{draft_so_far}
 use Rattle.sheet.proofs.Lines.{as_rule_line, as_post_line, made_post}
 use Rattle.sheet.proofs.reading.Reading.read_line.Goals as goal
 
-pub returns-then-is-begun : goal.returns-then-is-begun
-returns-then-is-begun c =
+pub returns-then-is_begun : goal.returns-then-is_begun
+returns-then-is_begun c =
     record {
-      draft = as_rule_line (draft_so_far c.args.self.now) (draft_so_far c.read-rule-line.new.self) c.args.line c.args.text.now _ _ c.if-is-begun.ensures (take_rest c.args.text.now 5) c.read-rule-line.ensures.draft;
-      over = c.read-rule-line.ensures.over;
+      draft = as_rule_line (draft_so_far c.args.self.now) (draft_so_far c.read_rule_line.new.self) c.args.line c.args.text.now _ _ c.if-is_begun.ensures (take_rest c.args.text.now 5) c.read_rule_line.ensures.draft;
+      over = c.read_rule_line.ensures.over;
     }
 
 pub returns : goal.returns
 returns c =
     let b = c.args.self.now in
     record {
-      draft = as_post_line (entries b.roster) (entries c.read-post.new.self) b.ruled (rule_formula b.rule) c.args.line c.args.text.now _ c.if-is-begun.ensures c.read-post.ensures;
-      over = made_post (entries b.roster) (entries c.read-post.new.self) b.ruled c.args.line c.args.text.now _ (b.rule.signals ≡ vec_len c.read-post.new.self.signals) c.read-post.ensures;
+      draft = as_post_line (entries b.roster) (entries c.read_post.new.self) b.ruled (rule_formula b.rule) c.args.line c.args.text.now _ c.if-is_begun.ensures c.read_post.ensures;
+      over = made_post (entries b.roster) (entries c.read_post.new.self) b.ruled c.args.line c.args.text.now _ (b.rule.signals ≡ vec_len c.read_post.new.self.signals) c.read_post.ensures;
     }

@@ -7,16 +7,16 @@ use Rattle.sheet.specs.Texts.{after_lines, lines, lines_holds}
 use Rattle.sheet.proofs.Lines.{all_read, drafted_exit, line_breaks, line_joins, line_passes, next_line, rule_missing}
 use Rattle.sheet.proofs.reading.Reading.read_lines.Goals as goal
 
-pub returns-in-err-read-line : goal.returns-in-err-read-line
-returns-in-err-read-line c =
+pub returns-in_err-read_line : goal.returns-in_err-read_line
+returns-in_err-read_line c =
     let inv = c.loop-at.invariant in
     let d = draft_so_far c.args.self.now in
     let ls = lines c.args.text.now in
     let next = next_line c.args.text.now c.loop-at.at c.find-end.result c.loop-at-test.true c.find-end.ensures.value in
     record {
-      draft = drafted_exit (lines_holds d 1 ls) (after_lines d ls) (draft_so_far c.read-line.new.self) _ _ c.from-residual.ensures.1 (sym inv.3 ∙ line_breaks (draft_so_far c.loop-at.self) c.loop-at.number _ _ _ next _ c.in-err-read-line.ensures.draft);
-      over = IfOk-from_err _ _ c.from-residual.ensures.0;
-      ruled = IfOk-from_err _ _ c.from-residual.ensures.0;
+      draft = drafted_exit (lines_holds d 1 ls) (after_lines d ls) (draft_so_far c.read_line.new.self) _ _ c.from_residual.ensures.1 (sym inv.3 ∙ line_breaks (draft_so_far c.loop-at.self) c.loop-at.number _ _ _ next _ c.in_err-read_line.ensures.draft);
+      over = IfOk-from_err _ _ c.from_residual.ensures.0;
+      ruled = IfOk-from_err _ _ c.from_residual.ensures.0;
     }
 
 pub loop-at-preserved : goal.loop-at-preserved
@@ -24,7 +24,7 @@ loop-at-preserved c =
     let inv = c.loop-at.invariant in
     let d = draft_so_far c.loop-at.self in
     let next = next_line c.args.text.now c.loop-at.at c.find-end.result c.loop-at-test.true c.find-end.ensures.value in
-    let went = c.in-ok-read-line.ensures in (
+    let went = c.in_ok-read_line.ensures in (
       omega (arith, c.find-end.ensures.bound),
       omega (arith, inv.1, c.find-end.ensures.value),
       went.over,
