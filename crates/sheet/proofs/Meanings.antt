@@ -1,24 +1,22 @@
 -- What an accepted sheet means.
-use Rattle.std.proofs.Common.{◌≡◌, ℕ, suc, ◌<◌, ◌≤◌, Bool, true, false, cond, not, ◌||◌, ltb, List, [], ◌∷◌, ◌++◌, length, take, drop, is_some, Some, None, codes, Option, unwrap_or, sym, refl, ap, ◌∙◌, subst, append_assoc, arith}
-use Rattle.std.specs.Str.{bytes_eq}
+use Rattle.std.proofs.Common.{◌≡◌, ℕ, suc, ◌≤◌, Bool, true, false, cond, not, ◌||◌, List, [], ◌∷◌, ◌++◌, length, take, drop, is_some, Some, None, codes, Option, unwrap_or, sym, refl, ap, ◌∙◌, subst, append_assoc}
 use Rattle.std.proofs.lemmas.Slice.Eq.{bytes_eq-Decides}
 use Rattle.std.proofs.lemmas.List.{take-append-drop}
 use Rattle.std.proofs.lemmas.Bool.{ltb-false, true≢false}
 use Rattle.temporal.specs.Formula.{Formula, never}
 use Rattle.temporal.specs.Parts.{parts}
 use Rattle.temporal.specs.Shorten.{shorten}
-use Rattle.holds.specs.Cases.{Hold, Cases, first_case, on_line, on_word, plain}
+use Rattle.holds.specs.Cases.{Hold, first_case}
 use Rattle.holds.proofs.Cases.{first_case_means, none_in_front, past_fits}
 use Rattle.words.specs.Texts.{words_of}
 use Rattle.words.specs.declared.word.Word.{Word}
 use Rattle.grammar.specs.Grammar.{Reads}
-use Rattle.grammar.specs.Machine.{raw_of}
-use Rattle.grammar.specs.Scan.{misplaced, unknown}
+use Rattle.grammar.specs.Scan.{misplaced}
 use Rattle.grammar.proofs.Faults.{misplaced_means}
 use Rattle.grammar.proofs.Readings.{raw_means}
-use Rattle.roster.specs.Entries.{Entries, PostLine, after_post, post_holds, post_line, signal_names}
-use Rattle.roster.proofs.Writing.{Says, nothing_says, says_more}
-use Rattle.sheet.specs.Texts.{Draft, Meant, after_line, after_lines, after_rule, blank, is_rule_line, last_byte, line_holds, lines, lines_holds, none_yet, rule_formula, rule_holds, rule_words, said, sheet_hold, word_number, words_holds, wrong_whole}
+use Rattle.roster.specs.Entries.{PostLine, after_post, post_holds, post_line, signal_names}
+use Rattle.roster.proofs.Writing.{Says, says_more}
+use Rattle.sheet.specs.Texts.{Draft, Meant, after_line, after_lines, after_rule, is_rule_line, line_holds, lines_holds, none_yet, rule_formula, rule_holds, rule_words}
 use Rattle.sheet.proofs.Lines.{unruled}
 
 -- What a rule line that passed means.

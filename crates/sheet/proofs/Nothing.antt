@@ -1,9 +1,9 @@
 -- A blank sheet says nothing.
-use Rattle.std.proofs.Common.{◌≡◌, false, cond, List, [], ◌∷◌, map, vec_items, ap, ◌∙◌, arith}
+use Rattle.std.proofs.Common.{◌≡◌, cond, [], ◌∷◌, map, vec_items, ap, ◌∙◌, arith}
 use Rattle.rule.specs.Ruled.{rule_formula}
 use Rattle.roster.specs.Rosters.{owned, post_name}
 use Rattle.sheet.specs.Sheets.{draft_so_far}
-use Rattle.sheet.specs.Texts.{Draft, blank}
+use Rattle.sheet.specs.Texts.{blank}
 use Rattle.sheet.specs.declared.blank.Blank.{Blank}
 use Rattle.sheet.proofs.Wholes.{none_left}
 

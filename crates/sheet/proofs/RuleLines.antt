@@ -1,5 +1,5 @@
 -- The rule line.
-use Rattle.std.proofs.Common.{◌≡◌, ℕ, ◌<◌, ◌≤◌, Bool, true, false, cond, not, ◌||◌, eqb, List, [], ◌∷◌, ◌++◌, map, length, is_some, IsErrAnd, Some, None, Ok, Err, Option, Result, unwrap_or, sym, refl, ap, ◌∙◌, subst, arith}
+use Rattle.std.proofs.Common.{◌≡◌, ℕ, Bool, true, false, cond, not, ◌||◌, eqb, List, [], ◌∷◌, ◌++◌, map, length, is_some, IsErrAnd, Some, None, Err, Option, Result, unwrap_or, sym, refl, ap, ◌∙◌, subst, arith}
 use Rattle.std.proofs.lemmas.Result.{err_from_is_err_and}
 use Rattle.std.proofs.lemmas.Bool.{eqb-true, eqb-false}
 use Rattle.temporal.specs.Formula.{Formula}
@@ -7,7 +7,7 @@ use Rattle.holds.specs.Cases.{Hold, Cases, first_case, on_line}
 use Rattle.words.specs.Named.{name_bytes}
 use Rattle.words.specs.Texts.{words_of}
 use Rattle.words.specs.declared.word.Word.{Word}
-use Rattle.roster.specs.Entries.{Entries, signal_names}
+use Rattle.roster.specs.Entries.{signal_names}
 use Rattle.roster.specs.Faults.{answered}
 use Rattle.roster.specs.Rosters.{owned, post_name}
 use Rattle.roster.specs.declared.fault.RuleFault.{RuleFault}

@@ -1,5 +1,5 @@
 -- The rule of some words.
-use Rattle.std.proofs.Common.{◌≡◌, ℕ, ◌<◌, ◌≤◌, Bool, true, false, cond, ltb, List, length, take, IsErrAnd, Some, None, Ok, Err, vec_items, Result, sym, refl, ap, ◌∙◌, subst, ⊎_elim, arith}
+use Rattle.std.proofs.Common.{◌≡◌, ℕ, ◌≤◌, true, false, cond, ltb, List, length, IsErrAnd, Some, None, Err, vec_items, Result, sym, ap, ◌∙◌, subst, ⊎_elim, arith}
 use Rattle.std.proofs.lemmas.List.{take_all}
 use Rattle.std.proofs.lemmas.Result.{err_from_is_err_and}
 use Rattle.std.proofs.lemmas.Bool.{cases_Bool, le-ltb}
@@ -18,7 +18,6 @@ use Rattle.roster.specs.declared.fault.RuleFault.{RuleFault}
 use Rattle.roster.specs.declared.fault.RuleFault.TheVariants.{Words}
 use Rattle.roster.specs.declared.fault.SheetFault.TheVariants.{Rule as Rule-fault}
 use Rattle.rule.specs.Rules.{misfit}
-use Rattle.rule.specs.Ruled.{rule_formula}
 use Rattle.rule.specs.declared.misfit.Misfit.{Misfit}
 use Rattle.rule.specs.declared.misfit.Misfit.TheVariants.{Parts}
 use Rattle.rule.specs.declared.rule.Rule.{Rule}

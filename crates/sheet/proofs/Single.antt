@@ -1,5 +1,5 @@
 -- A list of one.
-use Rattle.std.proofs.Common.{◌≡◌, ℕ, ◌<◌, List, [], ◌∷◌, length, get_or, sym, refl, ap, ◌∙◌, arith}
+use Rattle.std.proofs.Common.{◌≡◌, List, [], ◌∷◌, length, get_or, ap, arith}
 
 pub single : {X : Type 0} (xs : List X) (y : X) → length xs ≡ 1 → y ≡ get_or xs 0 y → y ∷ [] ≡ xs
 single [] y l e = let z : ⊥ = omega arith in elim z [ ]

@@ -1,25 +1,20 @@
 -- The words of a rule, and the rule that they are.
-use Rattle.std.proofs.Common.{◌≡◌, ℕ, suc, ◌+◌, ◌<◌, ◌≤◌, Bool, true, false, cond, ltb, List, [], ◌∷◌, ◌++◌, length, is_some, Some, None, Option, unwrap_or, sym, refl, ap, ◌∙◌, arith}
-use Rattle.std.proofs.lemmas.Bool.{cases_Bool, le-ltb}
-use Rattle.temporal.specs.Formula.{Formula, never}
-use Rattle.temporal.specs.Formula.Formula.{signal}
-use Rattle.temporal.specs.Obligation.{Closed}
-use Rattle.temporal.specs.Parts.{Part as PartOf, parts}
+use Rattle.std.proofs.Common.{◌≡◌, ℕ, suc, ◌+◌, ◌<◌, ◌≤◌, Bool, true, false, cond, ltb, List, [], ◌∷◌, ◌++◌, length, is_some, Some, None, Option, unwrap_or, sym, ap, ◌∙◌, arith}
+use Rattle.std.proofs.lemmas.Bool.{le-ltb}
+use Rattle.temporal.specs.Formula.{never}
+use Rattle.temporal.specs.Parts.{parts}
 use Rattle.temporal.specs.Shorten.{shorten}
 use Rattle.holds.specs.Cases.{Hold, Cases, first_case, on_line, on_word}
 use Rattle.holds.proofs.Cases.{front_fits, past_fits}
 use Rattle.parts.specs.declared.part.Part.{Part}
 use Rattle.parts.specs.Places.{formula}
 use Rattle.words.specs.declared.word.Word.{Word}
-use Rattle.grammar.specs.Grammar.{Reads}
-use Rattle.grammar.specs.Machine.{raw_of}
 use Rattle.grammar.specs.Scan.{foreign, misplaced, unknown, unknown_from}
 use Rattle.grammar.proofs.Faults.{misplaced_means}
 use Rattle.grammar.proofs.Names.{known_means}
 use Rattle.grammar.proofs.Readings.{raw_means}
 use Rattle.reader.specs.Answers.{Rule-read}
 use Rattle.rule.specs.Rules.{all_plain, misfit}
-use Rattle.rule.specs.declared.misfit.Misfit.{Misfit}
 use Rattle.rule.specs.declared.misfit.Misfit.TheVariants.{Signals, Parts, Leaf}
 use Rattle.rule.proofs.Ruling.{plain_means}
 use Rattle.sheet.specs.Texts.{place_holds, rule_formula, word_number, words_holds}

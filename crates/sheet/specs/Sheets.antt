@@ -1,5 +1,5 @@
 -- What a sheet says.
-use Rattle.std.specs.Prelude.{◌≡◌, ℕ, Bool, true, false, cond, List, [], ◌∷◌, map, Some, None, Ok, Err, vec_items, vec_len, Result}
+use Rattle.std.specs.Prelude.{◌≡◌, ℕ, true, cond, List, [], ◌∷◌, map, Some, None, Ok, Err, vec_items, vec_len, Result}
 use Rattle.holds.specs.Cases.{Hold, Cases, first_case}
 use Rattle.parts.specs.declared.part.Part.{Part}
 use Rattle.words.specs.declared.word.Word.{Word}

@@ -1,4 +1,4 @@
-use Rattle.std.proofs.Common.{◌-◌, length, vec_len}
+use Rattle.std.proofs.Common.{◌-◌, vec_len}
 use Rattle.flights.proofs.run.Given as goal
 
 abbrev pub decreases-loop-at : goal.decreases-loop-at

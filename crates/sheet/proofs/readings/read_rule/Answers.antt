@@ -1,4 +1,4 @@
-use Rattle.std.proofs.Common.{◌≡◌, ◌≤◌, ap, ◌∙◌, arith}
+use Rattle.std.proofs.Common.{◌≤◌, ◌∙◌, arith}
 use Rattle.parts.specs.Tables.{parts_of}
 use Rattle.sheet.proofs.Ruling.{ruled_break, ruled_fits, ruled_formula, ruled_large}
 use Rattle.sheet.proofs.readings.read_rule.Goals as goal

@@ -1,4 +1,4 @@
-use Rattle.std.proofs.Common.{◌≡◌, List, [], ◌∷◌, map, length, vec_items, refl, ap, ◌∙◌, arith}
+use Rattle.std.proofs.Common.{length, vec_items, refl, ap, arith}
 use Rattle.std.proofs.lemmas.List.{length-map}
 use Rattle.roster.specs.Rosters.{post_name, owned}
 use Rattle.sheet.proofs.blank.Blank.new.Goals as goal

@@ -1,6 +1,5 @@
-use Rattle.std.proofs.Common.{◌≡◌, cond, List, [], ◌∷◌, ◌++◌, map, length, vec_items, sym, ap, ◌∙◌, arith}
+use Rattle.std.proofs.Common.{cond, [], ◌∷◌, ◌++◌, map, vec_items, sym, ap, ◌∙◌, arith}
 use Rattle.rule.specs.Ruled.{rule_formula}
-use Rattle.rule.specs.declared.rule.Rule.{Rule}
 use Rattle.roster.specs.Rosters.{entries}
 use Rattle.sheet.specs.Rules.{signals_of}
 use Rattle.sheet.proofs.Wholes.{none_left}

@@ -1,4 +1,4 @@
-use Rattle.std.proofs.Common.{◌≡◌, true, false, sym, ◌∙◌, add-one, arith}
+use Rattle.std.proofs.Common.{true, false, sym, ◌∙◌, add-one, arith}
 use Rattle.std.proofs.lemmas.Result.{IfOk-from_err}
 use Rattle.rule.specs.Ruled.{rule_formula}
 use Rattle.roster.specs.Rosters.{entries}

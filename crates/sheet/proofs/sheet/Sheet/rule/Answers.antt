@@ -1,4 +1,4 @@
-use Rattle.std.proofs.Common.{◌≡◌, map, length, vec_items, sym, ap, ◌∙◌, arith}
+use Rattle.std.proofs.Common.{◌≡◌, map, length, vec_items, ap, ◌∙◌, arith}
 use Rattle.rule.specs.Ruled.{rule_formula}
 use Rattle.sheet.specs.Rules.{signals_of}
 use Rattle.sheet.proofs.Single.{single}
