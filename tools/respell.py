@@ -13,10 +13,15 @@ import re
 TOKEN = re.compile(r"[^\s(){}\[\],;.«»\"`]+")
 DECLARED = re.compile(
     r"\s*(?:abbrev\s+|unfoldable\s+)*(?:pub\s+)?(?:data\s+|record\s+|ruleset\s+)?"
-    r"((?:[^\s(){}\[\],;.]+\s+)*[^\s(){}\[\],;.]+)\s*:(?=\s|$)"
+    r"((?:[^\s(){}\[\],;.]+\s+)*[^\s(){}\[\],;.]+)\s*(?:\([^=]*\)\s*)?:(?=\s|$)"
 )
-# Other names of clauses that a .rt file gives to a constructor.
-ALIASES = {"signalOf": "signal_of", "leafOf": "leaf_of", "levelOf": "level_of", "unknownOf": "unknown_of"}
+# Other names that a file gives to a word that it imports, and names of hypotheses.
+ALIASES = {
+    "signalOf": "signal_of", "leafOf": "leaf_of", "levelOf": "level_of", "unknownOf": "unknown_of",
+    "stands-in": "stands_in", "is-a-group": "is_a_group", "letter-of": "letter_of", "listing-of": "listing_of",
+    "held-line": "held_line", "Open-in": "OpenIn", "Rule-fault": "OfRule",
+    "unit-is": "unit_is", "at-sheet": "at_sheet", "at-ticks": "at_ticks",
+}
 
 
 def files(kinds):

@@ -4,7 +4,7 @@ use Rattle.std.proofs.lemmas.Bool.{leb-false}
 use Rattle.temporal.specs.Formula.{Formula}
 use Rattle.temporal.specs.Formula.Formula.{signal}
 use Rattle.temporal.specs.Parts.{Part}
-use Rattle.temporal.specs.Obligation.{Closed, Open as Open-in}
+use Rattle.temporal.specs.Obligation.{Closed, Open as OpenIn}
 use Rattle.temporal.proofs.Names.{shorten_bare}
 use Rattle.temporal.proofs.Owed.{shortened_is_owed}
 use Rattle.parts.specs.declared.part.Unary.{Unary}
@@ -69,7 +69,7 @@ one_closed Next f c = c
 one_closed Finally f c = c
 one_closed Globally f c = c
 
-either_closed : (f g : Formula) → Closed f → Closed g → (p e : ℕ) → Open-in p e f ⊎ Open-in p e g → ⊥
+either_closed : (f g : Formula) → Closed f → Closed g → (p e : ℕ) → OpenIn p e f ⊎ OpenIn p e g → ⊥
 either_closed f g c d p e (inl k) = c p e k
 either_closed f g c d p e (inr k) = d p e k
 

@@ -81,12 +81,12 @@ fit_counts ss k (g ∷ gs) (c ∷ cs) h e l =
     ap (λ z. replicate (length g) k ++ z) r ∙ ap (λ z. replicate z k ++ tagged (suc k) cs) m
 
 -- The owners are the posts in order, each as often as it has signals.
-pub record In-order (e : Entries) : Type 0 where
+pub record InOrder (e : Entries) : Type 0 where
   pub counts : List ℕ
   pub long : length counts ≡ length e.posts
   pub are : owners e.signals ≡ tagged 1 counts
 
-post_in_order : (e : Entries) (n : List ℕ) → In-order e → In-order (with_post e n)
+post_in_order : (e : Entries) (n : List ℕ) → InOrder e → InOrder (with_post e n)
 post_in_order e n o = record {
   counts = o.counts ++ 0 ∷ [];
   long = (let a = length_push o.counts 0 in let b = length_push e.posts n in omega (arith, o.long));
@@ -99,10 +99,10 @@ last_of [] l = absurd (omega arith)
 last_of (c ∷ []) l = ([], c, refl)
 last_of (c ∷ (b ∷ cs)) l = let r = last_of (b ∷ cs) (omega arith) in (c ∷ r.0, r.1, ap (λ z. c ∷ z) r.2)
 
-signal_in_order : (e : Entries) (n : List ℕ) → 0 < length e.posts → In-order e → In-order (with_signal e n)
+signal_in_order : (e : Entries) (n : List ℕ) → 0 < length e.posts → InOrder e → InOrder (with_signal e n)
 signal_in_order e n l o = go (last_of o.counts (omega (arith, o.long)))
   where
-    go : (ds : List ℕ) × (d : ℕ) × (o.counts ≡ ds ++ d ∷ []) → In-order (with_signal e n)
+    go : (ds : List ℕ) × (d : ℕ) × (o.counts ≡ ds ++ d ∷ []) → InOrder (with_signal e n)
     go (ds, d, q) =
         let a = length_push ds d in
         let b = length_push ds (d + 1) in
@@ -119,25 +119,25 @@ signal_in_order e n l o = go (last_of o.counts (omega (arith, o.long)))
               ∙ sym (tagged_more 1 ds (d + 1));
         }
 
-signals_in_order : (ns : List (List ℕ)) (e : Entries) → 0 < length e.posts → In-order e → In-order (with_signals e ns)
+signals_in_order : (ns : List (List ℕ)) (e : Entries) → 0 < length e.posts → InOrder e → InOrder (with_signals e ns)
 signals_in_order [] e l o = o
 signals_in_order (n ∷ ns) e l o = signals_in_order ns (with_signal e n) l (signal_in_order e n l o)
 
-line_in_order : (e : Entries) (p : Option PostLine) → In-order e → In-order (with_line e p)
+line_in_order : (e : Entries) (p : Option PostLine) → InOrder e → InOrder (with_line e p)
 line_in_order e None o = o
 line_in_order e (Some p) o =
     let b = length_push e.posts p.name in
     signals_in_order p.signals (with_post e p.name) (omega arith) (post_in_order e p.name o)
 
-lines_in_order : (xs : List (List ℕ)) (d : Draft) → In-order d.entries → In-order (after_lines d xs).entries
+lines_in_order : (xs : List (List ℕ)) (d : Draft) → InOrder d.entries → InOrder (after_lines d xs).entries
 lines_in_order [] d o = o
 lines_in_order (x ∷ xs) d o = lines_in_order xs (after_line d x) (go (is_rule_line x))
   where
-    go : (t : Bool) → In-order (cond t (after_rule d (drop 5 x)) (record { entries = after_post d.entries x; rules = d.rules })).entries
+    go : (t : Bool) → InOrder (cond t (after_rule d (drop 5 x)) (record { entries = after_post d.entries x; rules = d.rules })).entries
     go true = o
     go false = line_in_order d.entries (post_line x) o
 
-said_in_order : (sheet : List ℕ) → In-order (said sheet).entries
+said_in_order : (sheet : List ℕ) → InOrder (said sheet).entries
 unfolding said
 said_in_order sheet = lines_in_order (lines sheet) blank (record { counts = []; long = refl; are = refl })
 

@@ -2,7 +2,7 @@
 ghost use Rattle.std.specs.Prelude.{◌≡◌, IfOk};
 ghost use Rattle.roster.specs.Faults.{answered};
 ghost use Rattle.listing.specs.Flights.{Next, left};
-ghost use Rattle.listing.specs.Listings.{held as held-line, listing as listing-of};
+ghost use Rattle.listing.specs.Listings.{held as held_line, listing as listing_of};
 
 use crate::flight::Flight;
 use crate::input::sheet_end;
@@ -15,7 +15,7 @@ use std::alloc::{AllocError, Global};
 
 /// The line of a sheet that is held back.
 fn held(fault: SheetFault) -> Line
-    ensures { result ≡ held-line (answered fault) }
+    ensures { result ≡ held_line (answered fault) }
 {
     Line::Held {
         number: fault.number(),
@@ -27,7 +27,7 @@ fn held(fault: SheetFault) -> Line
 impl<'a> Listing<'a> {
     /// The listing of an input; all the memory is taken here.
     pub fn new(heap: Global, input: &'a [u8]) -> Result<Listing<'a>, AllocError>
-        ensures { IfOk result (λ l. left l ≡ listing-of input.now) }
+        ensures { IfOk result (λ l. left l ≡ listing_of input.now) }
     {
         let end = sheet_end(input);
         let blank = Blank::new(heap)?;

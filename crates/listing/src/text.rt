@@ -1,6 +1,6 @@
 //! The text of a line.
 ghost use Rattle.std.specs.Prelude.{◌≡◌, Some};
-ghost use Rattle.listing.specs.Listings.{letter as letter-of, line_text, spaced};
+ghost use Rattle.listing.specs.Listings.{letter as letter_of, line_text, spaced};
 
 use crate::line::Line;
 use monitor::Verdict;
@@ -8,7 +8,7 @@ use std::fmt;
 
 /// T for true, F for false, ? for undecided.
 fn letter(verdict: Verdict) -> &'static str
-    ensures { result.now ≡ letter-of verdict }
+    ensures { result.now ≡ letter_of verdict }
 {
     match verdict {
         Verdict::True => "T",

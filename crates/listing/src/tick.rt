@@ -2,7 +2,7 @@
 ghost use Rattle.std.specs.Prelude.{◌≡◌, ◌≤◌, map, length};
 ghost use Rattle.words.specs.Names.{every};
 ghost use Rattle.roster.specs.Rosters.{owned};
-ghost use Rattle.listing.specs.Ticks.{bits, digit, each_fits, groups, is_group as is-a-group, owned_by, whole};
+ghost use Rattle.listing.specs.Ticks.{bits, digit, each_fits, groups, is_group as is_a_group, owned_by, whole};
 
 use roster::{Signal, find};
 
@@ -53,7 +53,7 @@ fn are_digits(group: &[u8]) -> bool
 
 /// Whether a group has exactly so many digits, and no other byte.
 fn is_group(group: &[u8], digits: usize) -> bool
-    ensures { result ≡ is-a-group digits group.now }
+    ensures { result ≡ is_a_group digits group.now }
 {
     group.len() == digits && are_digits(group)
 }

@@ -68,18 +68,18 @@ zero_is : (o : Junction) (u : Bool) → u ≡ unit (op o) → not u ≡ zero (op
 zero_is And u e = ap not e
 zero_is Or u e = ap not e
 
-module _ (ps : List Part) (o : Junction) (u : Bool) (x y : ℕ) (unit-is : u ≡ unit (op o)) where
+module _ (ps : List Part) (o : Junction) (u : Bool) (x y : ℕ) (unit_is : u ≡ unit (op o)) where
   is_unit : (h : Formula) → true ≡ same h (const u) → h ≡ const (unit (op o))
-  is_unit h e = same_true h (const u) (sym e) ∙ ap const unit-is
+  is_unit h e = same_true h (const u) (sym e) ∙ ap const unit_is
 
   no_unit : (h : Formula) → false ≡ same h (const u) → h ≡ const (unit (op o)) → ⊥
-  no_unit h e q = same_false h (const u) (sym e) (q ∙ ap const (sym unit-is))
+  no_unit h e q = same_false h (const u) (sym e) (q ∙ ap const (sym unit_is))
 
   is_zero : (h : Formula) → true ≡ same h (const (not u)) → h ≡ const (zero (op o))
-  is_zero h e = same_true h (const (not u)) (sym e) ∙ ap const (zero_is o u unit-is)
+  is_zero h e = same_true h (const (not u)) (sym e) ∙ ap const (zero_is o u unit_is)
 
   no_zero : (h : Formula) → false ≡ same h (const (not u)) → h ≡ const (zero (op o)) → ⊥
-  no_zero h e q = same_false h (const (not u)) (sym e) (q ∙ ap const (sym (zero_is o u unit-is)))
+  no_zero h e q = same_false h (const (not u)) (sym e) (q ∙ ap const (sym (zero_is o u unit_is)))
 
   pub left_unit_way : y < length ps → true ≡ same (formula ps x) (const u) → Stands ps (joinˢ (op o) (formula ps x) (formula ps y)) y
   left_unit_way h e = record { inside = h; formula_is = sym (ap (λ z. joinˢ (op o) z (formula ps y)) (is_unit (formula ps x) e) ∙ unit_left (op o) (formula ps y)) }

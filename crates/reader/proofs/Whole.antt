@@ -10,7 +10,7 @@ use Rattle.grammar.proofs.Scanned.{run_more, misplaced_word, misplaced_end}
 use Rattle.grammar.proofs.Shortened.{short_reads}
 use Rattle.reader.specs.declared.frame.Frame.{Frame}
 use Rattle.reader.specs.Waiting.{Fit, load, state_of, Took, Ended}
-use Rattle.reader.specs.Answers.{Rule-read}
+use Rattle.reader.specs.Answers.{RuleRead}
 use Rattle.reader.proofs.Waits.{not_stuck}
 
 module _ (ws : List Word) (k : ℕ) (h : Option ℕ) (ps : List Part) (fs : List Frame) (here : state_of h ps fs ≡ run short (want []) (take k ws)) where
@@ -26,7 +26,7 @@ module _ (ws : List Word) (k : ℕ) (h : Option ℕ) (ps : List Part) (fs : List
   stops d l e = misplaced_word short ws k (state_of h ps fs) here (not_stuck h ps fs) d l e
 
   -- The end: the words are a rule,
-  pub reads_all : (qs : List Part) (top : ℕ) → length ws ≤ k → Ended h ps fs qs (Some top) → Rule-read ws qs top
+  pub reads_all : (qs : List Part) (top : ℕ) → length ws ≤ k → Ended h ps fs qs (Some top) → RuleRead ws qs top
   reads_all qs top l e =
       let all = ap (ending short) (sym (here ∙ ap (run short (want [])) (take_all k ws l))) ∙ e.1 in
       let r = short_reads ws (formula qs top) all in

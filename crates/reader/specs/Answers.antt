@@ -10,12 +10,12 @@ use Rattle.grammar.specs.Scan.{misplaced}
 use Rattle.reader.specs.declared.misplaced.Misplaced.{Misplaced}
 
 -- The words are a rule, and its formula, shortened, stands in the table.
-pub record Rule-read (ws : List Word) (ps : List Part) (top : ℕ) : Type 0 where
+pub record RuleRead (ws : List Word) (ps : List Part) (top : ℕ) : Type 0 where
   pub raw : Formula
   pub reads : Reads 0 ws raw
   pub stands : Stands ps (shorten raw) top
 
 -- The place of the rule's formula, or the first word at fault.
 abbrev pub Answers : List Word → List Part → Result ℕ Misplaced → Type 0
-Answers ws ps (Ok top) = Rule-read ws ps top
+Answers ws ps (Ok top) = RuleRead ws ps top
 Answers ws ps (Err m) = misplaced ws ≡ Some m.word

@@ -1,7 +1,7 @@
 //! What a roster does.
 ghost use Rattle.std.specs.Prelude.{◌≡◌, ◌<◌, ◌≤◌, [], length, IfOk, vec_len};
 ghost use Rattle.words.specs.Named.{name_bytes};
-ghost use Rattle.roster.specs.Entries.{name_holds, no_entries, signal_holds, stands as stands-in, with_post, with_signal};
+ghost use Rattle.roster.specs.Entries.{name_holds, no_entries, signal_holds, stands as stands_in, with_post, with_signal};
 ghost use Rattle.roster.specs.Rosters.{Judged, NamedFresh, entries};
 
 use crate::fault::SheetFault;
@@ -59,7 +59,7 @@ impl Roster {
 
     /// Whether a name stands on the sheet already.
     fn stands(&self, name: &[u8]) -> bool
-        ensures { result ≡ stands-in (entries self.now) name.now }
+        ensures { result ≡ stands_in (entries self.now) name.now }
     {
         if is_among(name, self.posts()) {
             return true;

@@ -12,7 +12,7 @@ use Rattle.roster.specs.Faults.{answered}
 use Rattle.roster.specs.Rosters.{owned, post_name}
 use Rattle.roster.specs.declared.fault.RuleFault.{RuleFault}
 use Rattle.roster.specs.declared.fault.SheetFault.{SheetFault}
-use Rattle.roster.specs.declared.fault.SheetFault.TheVariants.{Rule as Rule-fault}
+use Rattle.roster.specs.declared.fault.SheetFault.TheVariants.{Rule as OfRule}
 use Rattle.roster.specs.declared.roster.Post.{Post}
 use Rattle.roster.specs.declared.roster.Signal.{Signal}
 use Rattle.roster.proofs.Standing.{labels}
@@ -32,7 +32,7 @@ none_map f [] = refl
 none_map f (x ∷ xs) = refl
 
 -- A fault of the rule comes up unchanged.
-pub drafted_break : {A : Type 0} (ts : Cases Hold) (want got : Draft) (r : Result A SheetFault) (f : RuleFault) → IsErrAnd r (λ e. e ≡ Rule-fault f) → first_case ts ≡ Some (answered (Rule-fault f)) → Drafted ts want got r
+pub drafted_break : {A : Type 0} (ts : Cases Hold) (want got : Draft) (r : Result A SheetFault) (f : RuleFault) → IsErrAnd r (λ e. e ≡ OfRule f) → first_case ts ≡ Some (answered (OfRule f)) → Drafted ts want got r
 drafted_break ts want got r f h e =
     let p = err_from_is_err_and r h in subst (Drafted ts want got) (sym (p.1 ∙ ap Err p.2)) e
 

@@ -11,12 +11,12 @@ use Rattle.words.specs.Lists.{Holds}
 use Rattle.words.specs.declared.word.Word.{Word}
 use Rattle.words.specs.declared.wordlist.WordList.{WordList}
 use Rattle.grammar.specs.Scan.{unknown}
-use Rattle.reader.specs.Answers.{Rule-read}
+use Rattle.reader.specs.Answers.{RuleRead}
 use Rattle.roster.specs.Faults.{answered}
 use Rattle.roster.specs.declared.fault.WordFault.{WordFault}
 use Rattle.roster.specs.declared.fault.RuleFault.{RuleFault}
 use Rattle.roster.specs.declared.fault.RuleFault.TheVariants.{Words}
-use Rattle.roster.specs.declared.fault.SheetFault.TheVariants.{Rule as Rule-fault}
+use Rattle.roster.specs.declared.fault.SheetFault.TheVariants.{Rule as OfRule}
 use Rattle.rule.specs.Rules.{misfit}
 use Rattle.rule.specs.declared.misfit.Misfit.{Misfit}
 use Rattle.rule.specs.declared.misfit.Misfit.TheVariants.{Parts}
@@ -33,15 +33,15 @@ module _ (ws : List Word) (list : WordList) (xs : List Word) (holds : Holds ws l
   short = let k = holds.count_is in le-ltb 200 (length ws) (omega arith)
 
   -- A fault in the words comes up unchanged.
-  pub ruled_break : {A : Type 0} (n l : ℕ) (rule : Rule) (r : Result A RuleFault) (f : WordFault) → IsErrAnd r (λ e. e ≡ Words f) → first_case (place_holds n l xs) ≡ Some (answered (Rule-fault (Words f))) → Ruled ws n l rule r
+  pub ruled_break : {A : Type 0} (n l : ℕ) (rule : Rule) (r : Result A RuleFault) (f : WordFault) → IsErrAnd r (λ e. e ≡ Words f) → first_case (place_holds n l xs) ≡ Some (answered (OfRule (Words f))) → Ruled ws n l rule r
   ruled_break n l rule r f h e =
       let p = err_from_is_err_and r h in
       let moved = ap (λ z. first_case (place_holds n l z)) (sym all) ∙ e in
-      subst (Ruled ws n l rule) (sym (p.1 ∙ ap Err p.2)) (place_fits n l ws short (answered (Rule-fault (Words f))) moved)
+      subst (Ruled ws n l rule) (sym (p.1 ∙ ap Err p.2)) (place_fits n l ws short (answered (OfRule (Words f))) moved)
 
-  module _ (n l : ℕ) (ps : List Part) (top : ℕ) (read : Rule-read xs ps top) (known : unknown n xs ≡ None) (small : n ≤ 32) where
-    read_all : Rule-read ws ps top
-    read_all = subst (λ z. Rule-read z ps top) all read
+  module _ (n l : ℕ) (ps : List Part) (top : ℕ) (read : RuleRead xs ps top) (known : unknown n xs ≡ None) (small : n ≤ 32) where
+    read_all : RuleRead ws ps top
+    read_all = subst (λ z. RuleRead z ps top) all read
 
     known_all : unknown n ws ≡ None
     known_all = ap (unknown n) (sym all) ∙ known

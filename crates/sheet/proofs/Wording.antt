@@ -13,7 +13,7 @@ use Rattle.grammar.specs.Scan.{foreign, misplaced, unknown, unknown_from}
 use Rattle.grammar.proofs.Faults.{misplaced_means}
 use Rattle.grammar.proofs.Names.{known_means}
 use Rattle.grammar.proofs.Readings.{raw_means}
-use Rattle.reader.specs.Answers.{Rule-read}
+use Rattle.reader.specs.Answers.{RuleRead}
 use Rattle.rule.specs.Rules.{all_plain, misfit}
 use Rattle.rule.specs.declared.misfit.Misfit.TheVariants.{Signals, Parts, Leaf}
 use Rattle.rule.proofs.Ruling.{plain_means}
@@ -42,14 +42,14 @@ placed l m u =
 pub misplaced_fits : (n l : ℕ) (ws : List Word) (k : ℕ) → misplaced ws ≡ Some k → first_case (place_holds n l ws) ≡ Some (on_word 9 l (k + 1))
 misplaced_fits n l ws k e = ap (λ m. placed l m (unknown n ws)) e
 
-none_misplaced : (ws : List Word) (ps : List Part) (top : ℕ) → Rule-read ws ps top → misplaced ws ≡ None
+none_misplaced : (ws : List Word) (ps : List Part) (top : ℕ) → RuleRead ws ps top → misplaced ws ≡ None
 none_misplaced ws ps top r = (misplaced_means ws).0.1 (r.raw, r.reads)
 
-pub unknown_fits : (n l : ℕ) (ws : List Word) (k : ℕ) (ps : List Part) (top : ℕ) → Rule-read ws ps top → unknown n ws ≡ Some k → first_case (place_holds n l ws) ≡ Some (on_word 10 l (k + 1))
+pub unknown_fits : (n l : ℕ) (ws : List Word) (k : ℕ) (ps : List Part) (top : ℕ) → RuleRead ws ps top → unknown n ws ≡ Some k → first_case (place_holds n l ws) ≡ Some (on_word 10 l (k + 1))
 unknown_fits n l ws k ps top r e =
     ap (λ m. placed l m (unknown n ws)) (none_misplaced ws ps top r) ∙ ap (λ u. placed l None u) e
 
-none_placed : (n l : ℕ) (ws : List Word) (ps : List Part) (top : ℕ) → Rule-read ws ps top → unknown n ws ≡ None → first_case (place_holds n l ws) ≡ None
+none_placed : (n l : ℕ) (ws : List Word) (ps : List Part) (top : ℕ) → RuleRead ws ps top → unknown n ws ≡ None → first_case (place_holds n l ws) ≡ None
 none_placed n l ws ps top r e =
     ap (λ m. placed l m (unknown n ws)) (none_misplaced ws ps top r) ∙ ap (λ u. placed l None u) e
 
@@ -67,7 +67,7 @@ module _ (n l : ℕ) (ws : List Word) where
       ap (λ b. cond b (Some (on_line 8 l)) (first_case (place_holds n l ws ++ (on_line 11 l, ltb 64 (length (parts (rule_formula ws)))) ∷ []))) s
       ∙ front_fits (place_holds n l ws) ((on_line 11 l, ltb 64 (length (parts (rule_formula ws)))) ∷ []) h e
 
-  module _ (short : ltb 200 (length ws) ≡ false) (ps : List Part) (top : ℕ) (read : Rule-read ws ps top) (known : unknown n ws ≡ None) (few : n ≤ 32) where
+  module _ (short : ltb 200 (length ws) ≡ false) (ps : List Part) (top : ℕ) (read : RuleRead ws ps top) (known : unknown n ws ≡ None) (few : n ≤ 32) where
     pub formula_is : rule_formula ws ≡ formula ps top
     formula_is =
         ap (λ o. shorten (unwrap_or o never)) ((raw_means ws read.raw).1 read.reads) ∙ sym read.stands.formula_is
