@@ -22,7 +22,7 @@ returns-then-is_empty c =
     let b = c.args.self.now in
     let cut = c.in_default.ensures in
     record {
-      draft = first_fits (vec_items b.roster.posts) (vec_items b.roster.signals) b.ruled (rule_formula b.rule) c.args.line c.args.text.now _ cut.0 c.signals.ensures.items cut.1 _ c.posts.ensures.items c.if-is_empty.ensures;
+      draft = first_fits (vec_items b.roster.posts) (vec_items b.roster.signals) b.ruled (rule_formula b.rule) c.args.line c.args.text.now _ cut.0 c.signals.ensures.items cut.1 _ c.posts.ensures.items (cc);
       over = tt;
     }
 
@@ -31,7 +31,7 @@ returns-then-self c =
     let b = c.args.self.now in
     let cut = c.in_default.ensures in
     record {
-      draft = second_fits (vec_items b.roster.posts) (vec_items b.roster.signals) b.ruled (rule_formula b.rule) c.args.line c.args.text.now _ cut.0 c.signals.ensures.items cut.1 _ c.posts.ensures.items c.if-is_empty.ensures c.if-self.true;
+      draft = second_fits (vec_items b.roster.posts) (vec_items b.roster.signals) b.ruled (rule_formula b.rule) c.args.line c.args.text.now _ cut.0 c.signals.ensures.items cut.1 _ c.posts.ensures.items (cc) c.if-self.true;
       over = tt;
     }
 
@@ -41,7 +41,7 @@ returns-in_err-read_rule c =
     let ss = vec_items b.roster.signals in
     let cut = c.in_default.ensures in
     let count = ap length c.signals-2.ensures.items ∙ sym (length-map ss owned) in
-    let decide = words_decide (vec_items b.roster.posts) ss b.ruled (rule_formula b.rule) c.args.line c.args.text.now _ cut.0 c.signals.ensures.items cut.1 _ c.posts.ensures.items c.if-is_empty.ensures c.if-self.false in
+    let decide = words_decide (vec_items b.roster.posts) ss b.ruled (rule_formula b.rule) c.args.line c.args.text.now _ cut.0 c.signals.ensures.items cut.1 _ c.posts.ensures.items (cc) c.if-self.false in
     let held = c.in_err-read_rule.ensures cut.0 cut.2 in
     record {
       draft = drafted_break (rule_holds (draft_so_far b) c.args.line c.args.text.now) (after_rule (draft_so_far b) c.args.text.now) _ _ _ c.from_residual.ensures.1 (decide ∙ ap (λ n. first_case (words_holds n c.args.line cut.0)) (sym count) ∙ held);
@@ -54,12 +54,12 @@ returns c =
     let ss = vec_items b.roster.signals in
     let cut = c.in_default.ensures in
     let count = ap length c.signals-2.ensures.items ∙ sym (length-map ss owned) in
-    let decide = words_decide (vec_items b.roster.posts) ss b.ruled (rule_formula b.rule) c.args.line c.args.text.now _ cut.0 c.signals.ensures.items cut.1 _ c.posts.ensures.items c.if-is_empty.ensures c.if-self.false in
+    let decide = words_decide (vec_items b.roster.posts) ss b.ruled (rule_formula b.rule) c.args.line c.args.text.now _ cut.0 c.signals.ensures.items cut.1 _ c.posts.ensures.items (cc) c.if-self.false in
     let ruled = c.in_ok-read_rule.ensures cut.0 cut.2 in
     record {
       draft = (
         decide ∙ ap (λ n. first_case (words_holds n c.args.line cut.0)) (sym count) ∙ ruled.0,
-        rule_joins (vec_items b.roster.posts) ss b.ruled (rule_formula b.rule) c.args.line c.args.text.now _ cut.0 c.signals.ensures.items cut.1 _ c.posts.ensures.items c.if-is_empty.ensures c.if-self.false _ ruled.1,
+        rule_joins (vec_items b.roster.posts) ss b.ruled (rule_formula b.rule) c.args.line c.args.text.now _ cut.0 c.signals.ensures.items cut.1 _ c.posts.ensures.items (cc) c.if-self.false _ ruled.1,
       );
       over = λ _. ruled.2 ∙ ap length c.signals-2.ensures.items ∙ sym b.roster.signals.ok.0;
     }
