@@ -37,6 +37,10 @@ module _ (ps : List Part) (s : Shape) (sound : Sound ps) where
       let w : Fits ps (meant ps s) p = subst (Shapes ps (meant ps s)) e h in
       (refl, full, λ k l q. absent k l (part_is ps k p sound l w.below (q ∙ sym w.formula_is)))
 
+  -- a part that is not there may be written behind the others
+  pub sound_more : (p : Part) → s ≡ Is p → Shapes ps (meant ps s) s → ((k : ℕ) → k < length ps → get_or ps k blank ≡ p → ⊥) → Sound (ps ++ p ∷ [])
+  sound_more p e h absent = sound_push ps (meant ps s) p sound (subst (Shapes ps (meant ps s)) e h) absent
+
   pub interned_new : (p : Part) (qs : List Part) (n : ℕ) → s ≡ Is p → Shapes ps (meant ps s) s
       → ((k : ℕ) → k < length ps → get_or ps k blank ≡ p → ⊥) → length ps ≡ n → qs ≡ ps ++ p ∷ [] → Interned ps qs (meant ps s) (Some n)
   interned_new p qs n e h absent l q =
@@ -46,7 +50,7 @@ module _ (ps : List Part) (s : Shape) (sound : Sound ps) where
       λ k h r. absurd (absent k h (part_is ps k p sound h w.below (r ∙ sym w.formula_is))) in (
         subst (λ z. Made 1 ps z (meant ps s) n) (sym q) record {
           grown = grown_push ps p;
-          sound = sound_push ps (meant ps s) p sound w absent;
+          sound = sound_more p e h absent;
           stands = record {
             inside = omega arith;
             formula_is = ap (formula (ps ++ p ∷ [])) (sym l) ∙ push_new ps p ∙ w.formula_is;

@@ -3,7 +3,10 @@ use Rattle.std.proofs.Common.{◌≡◌, ℕ, ◌+◌, ◌<◌, ◌≤◌, List,
 use Rattle.std.proofs.lemmas.List.{length-take-le}
 use Rattle.temporal.specs.Formula.{Formula}
 use Rattle.parts.specs.Places.{formula, blank, reach, Sound, Made, in_use}
+use Rattle.parts.specs.Tables.{parts_in, parts_of}
+use Rattle.parts.specs.declared.lent.Lent.{Lent}
 use Rattle.parts.specs.declared.part.Unary.{Unary}
+use Rattle.parts.specs.declared.table.Table.{Table}
 use Rattle.parts.specs.declared.part.Binary.{Binary}
 use Rattle.parts.specs.declared.part.Part.{Part}
 use Rattle.parts.specs.declared.part.Part.TheVariants.{One, Two}
@@ -44,3 +47,13 @@ two_low ps i b x y s h e =
 -- As many parts are in use as the count says.
 pub used_length : {Z : Type 0} (v : Vec Part Z) (u : ℕ) → vec_len v ≡ 769 → u ≤ 768 → length (in_use u v) ≡ u
 used_length v u l h = let k = v.ok.0 in length-take-le u (vec_items v) (omega arith)
+
+-- What a table holds, and what it holds while its places and count are lent apart.
+pub sound_of : (t : Table) → Sound (parts_of t)
+sound_of t = record { ordered = t.ordered; once = t.once; short = t.short }
+
+pub sound_in : (l : Lent) → Sound (parts_in l)
+sound_in l = record { ordered = l.ordered; once = l.once; short = l.short }
+
+pub long_in : (l : Lent) → length (parts_in l) ≡ l.used.now
+long_in l = used_length l.places.now l.used.now l.long l.fits

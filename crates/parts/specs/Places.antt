@@ -73,6 +73,10 @@ reach (Open p s) = 0
 reach (One u a) = a + 1
 reach (Two b x y) = max x y + 1
 
+-- How many parts may be in use.
+abbrev pub room : ℕ
+room = 768
+
 -- The parts in use: the first n of a table's memory.
 abbrev pub in_use : {Z : Type 0} → ℕ → Vec Part Z → List Part
 in_use n v = take n (vec_items v)
@@ -133,7 +137,7 @@ pub record Made (n : ℕ) (ps qs : List Part) (f : Formula) (i : ℕ) : Type 0 w
 -- It was made, and where it stood in the table before, the table is as it was; or the table is full and the formula is not in it.
 abbrev pub Interned : List Part → List Part → Formula → Option ℕ → Type 0
 Interned ps qs f (Some i) = Made 1 ps qs f i × ((k : ℕ) → k < length ps → formula ps k ≡ f → qs ≡ ps)
-Interned ps qs f None = (qs ≡ ps) × (length ps ≡ 768) × ((k : ℕ) → k < length ps → formula ps k ≢ f)
+Interned ps qs f None = (qs ≡ ps) × (length ps ≡ room) × ((k : ℕ) → k < length ps → formula ps k ≢ f)
 
 -- The formula of a part without operands.
 abbrev pub leaf : Part → Formula

@@ -1,14 +1,11 @@
 //! A table of interned parts, in which formulas are made, shortened as they are built.
 #![tactic(auto)]
 
-mod interning;
+mod lent;
 mod part;
-mod search;
 mod shape;
-mod shapes;
 mod table;
-mod tables;
 
-pub use interning::{ROOM, part_at, put_binary, put_leaf, put_unary};
+pub use lent::{Lent, ROOM};
 pub use part::{Binary, Junction, Part, Unary};
 pub use table::Table;

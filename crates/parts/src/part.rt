@@ -1,4 +1,8 @@
 //! One part of a formula.
+ghost use Rattle.std.specs.Prelude.{Some};
+ghost use Rattle.parts.specs.Signs.{binary_sign, unary_sign};
+
+use std::fmt;
 
 /// A sign with one operand: not, X, F, G.
 #[derive(Clone, Copy, PartialEq, Eq)]
@@ -31,4 +35,29 @@ pub enum Part {
     Open(u8, u32),
     One(Unary, u16),
     Two(Binary, u16, u16),
+}
+
+impl fmt::Display for Unary {
+    ghost output = { λ s. Some (unary_sign s) };
+
+    fn fmt<W: fmt::Write>(&self, f: &mut fmt::Formatter<W>) -> fmt::Result {
+        f.write_str(match self {
+            Unary::Not => "!",
+            Unary::Next => "X",
+            Unary::Finally => "F",
+            Unary::Globally => "G",
+        })
+    }
+}
+
+impl fmt::Display for Binary {
+    ghost output = { λ s. Some (binary_sign s) };
+
+    fn fmt<W: fmt::Write>(&self, f: &mut fmt::Formatter<W>) -> fmt::Result {
+        f.write_str(match self {
+            Binary::Join(Junction::And) => "&",
+            Binary::Join(Junction::Or) => "|",
+            Binary::Until => "U",
+        })
+    }
 }

@@ -3,17 +3,10 @@ use Rattle.std.specs.Prelude.{◌≡◌, ℕ, suc, Bool, true, false, ◌↔◌,
 use Rattle.temporal.specs.Formula.{Formula, Run, Holds}
 use Rattle.temporal.specs.Progress.{step, close, Closes}
 use Rattle.temporal.specs.Formula.Formula.{const, reading}
-use Rattle.progression.specs.declared.reading.Reading.{Reading}
-use Rattle.progression.specs.declared.reading.Reading.TheVariants.{On, Off, Open}
 
-abbrev pub value : Reading → Option Bool
-value On = Some true
-value Off = Some false
-value Open = None
-
--- A signal of a row; one past its end is not known.
-abbrev pub known_at : List Reading → ℕ → Option Bool
-known_at row p = value (slice_index_or row p Open)
+-- A signal of a row: on, off or not known; one past its end is not known.
+abbrev pub known_at : List (Option Bool) → ℕ → Option Bool
+known_at row p = slice_index_or row p None
 
 -- Signal p at tick t: its value where it is known, else the open reading.
 abbrev pub reading_or : ℕ → ℕ → Option Bool → Formula
@@ -21,7 +14,7 @@ reading_or p t (Some b) = const b
 reading_or p t None = reading p t
 
 -- What a step at tick t makes of each signal.
-abbrev pub assigned : ℕ → List Reading → ℕ → Formula
+abbrev pub assigned : ℕ → List (Option Bool) → ℕ → Formula
 assigned t row p = reading_or p t (known_at row p)
 
 -- What closing makes of each open reading.
@@ -29,7 +22,7 @@ abbrev pub closed_by : (ℕ → ℕ → Option Bool) → ℕ → ℕ → Formula
 closed_by known p s = reading_or p s (known p s)
 
 -- What is known is true of the run.
-abbrev pub RowAgrees : Run → ℕ → List Reading → Type 0
+abbrev pub RowAgrees : Run → ℕ → List (Option Bool) → Type 0
 RowAgrees r t row = (p : ℕ) (b : Bool) → known_at row p ≡ Some b → r t p ≡ b
 
 abbrev pub KnownAgrees : Run → (ℕ → ℕ → Option Bool) → Type 0
@@ -39,6 +32,6 @@ KnownAgrees r known = (p s : ℕ) (b : Bool) → known p s ≡ Some b → r s p 
 -- a constant of an open reading or leaves it.
 abbrev pub ReadingsKeepMeaning : Type 0
 ReadingsKeepMeaning =
-    ((r : Run) (t : ℕ) (row : List Reading) → RowAgrees r t row → (f : Formula) → Holds r (step (assigned t row) f) (suc t) ↔ Holds r f t)
+    ((r : Run) (t : ℕ) (row : List (Option Bool)) → RowAgrees r t row → (f : Formula) → Holds r (step (assigned t row) f) (suc t) ↔ Holds r f t)
     × ((r : Run) (t : ℕ) (known : ℕ → ℕ → Option Bool) → KnownAgrees r known → (f : Formula) → Holds r (close (closed_by known) f) t ↔ Holds r f t)
     × ((known : ℕ → ℕ → Option Bool) → Closes (closed_by known))

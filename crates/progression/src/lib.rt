@@ -6,5 +6,5 @@ mod reading;
 mod rewrite;
 
 pub use pass::rewrite_all;
-pub use reading::{Known, Reading, Row, readings_keep_meaning};
+pub use reading::{Known, Row, readings_keep_meaning};
 pub use rewrite::{Closing, Rewrite};

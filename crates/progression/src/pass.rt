@@ -1,26 +1,25 @@
 //! One pass over the parts in use.
-ghost use Rattle.std.specs.Prelude.{◌≡◌, ◌*◌, ◌≤◌, length, vec_len};
-ghost use Rattle.parts.specs.Places.{in_use, Sound, Grown};
+ghost use Rattle.std.specs.Prelude.{◌≡◌, ◌*◌, ◌≤◌, length, vec_capacity, vec_len};
+ghost use Rattle.parts.specs.Places.{Grown};
+ghost use Rattle.parts.specs.Tables.{SameLoan, parts_in};
 ghost use Rattle.progression.specs.Passes.{Imaged};
 
 use crate::rewrite::Rewrite;
-use parts::Part;
+use parts::Lent;
 
 /// Rewrites every part in use, operands before their users; `images` then has the place of what became of each.
-pub fn rewrite_all<R: Rewrite>(places: &mut Vec<Part>, used: &mut usize, by: &R, images: &mut [u16])
-    requires long { vec_len places.old ≡ 769 }
-    requires room { used.old ≤ 256 }
-    requires sound { Sound (in_use used.old places.old) }
-    requires images { used.old ≤ length images.old }
-    ensures long { vec_len places.new ≡ 769 }
-    ensures fits { used.new ≤ 768 }
-    ensures grown { Grown (2 * used.old) (in_use used.old places.old) (in_use used.new places.new) }
-    ensures sound { Sound (in_use used.new places.new) }
-    ensures imaged { Imaged (R.to by.now) (in_use used.new places.new) images.new used.old }
+pub fn rewrite_all<R: Rewrite>(lent: &mut Lent<'_>, by: &R, images: &mut Vec<u16>)
+    requires few { length (parts_in lent.old) ≤ 256 }
+    requires images { 256 ≤ vec_capacity images.old }
+    ensures loan { SameLoan lent.old lent.new }
+    ensures grown { Grown (2 * length (parts_in lent.old)) (parts_in lent.old) (parts_in lent.new) }
+    ensures imaged { Imaged (R.to by.now) (parts_in lent.new) images.new.items }
+    ensures count { vec_len images.new ≡ length (parts_in lent.old) }
+    ensures capacity { vec_capacity images.new ≡ vec_capacity images.old }
 {
-    let n = *used;
-    for i in 0..n {
-        let x = by.image(places, used, i as u16, images);
-        images[i] = x;
+    images.clear();
+    for at in 0..*lent.used {
+        let image = by.image(lent, at as u16, images);
+        images.push_reserved(image);
     }
 }

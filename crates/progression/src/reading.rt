@@ -2,14 +2,6 @@
 ghost use Rattle.std.specs.Prelude.{◌≡◌, ℕ, Bool, if◌then◌else◌, None, Option as Maybe, nat_eq};
 ghost use Rattle.progression.specs.Readings.{ReadingsKeepMeaning, known_at};
 
-/// A signal at a tick: not known, which leaves it open, or off, or on.
-#[derive(Clone, Copy, PartialEq, Eq)]
-pub enum Reading {
-    Open,
-    Off,
-    On,
-}
-
 /// Past readings, as far as they are known.
 pub trait Known {
     ghost known: { Self → ℕ → ℕ → Maybe Bool };
@@ -19,11 +11,11 @@ pub trait Known {
         ensures { result ≡ known self.now signal tick };
 }
 
-/// What is known of one tick: the signals by their numbers, and all others open.
+/// What is known of one tick: the signals by their numbers, on or off; those that are not known, and all others, stay open.
 #[derive(Clone, Copy)]
 pub struct Row<'a> {
     pub tick: u32,
-    pub signals: &'a [Reading],
+    pub signals: &'a [Option<bool>],
 }
 
 impl Row<'_> {
@@ -31,15 +23,7 @@ impl Row<'_> {
     pub fn at(&self, signal: u8) -> Option<bool>
         ensures { result ≡ known_at self.now.signals.now signal }
     {
-        let i = signal as usize;
-        if i >= self.signals.len() {
-            return None;
-        }
-        match self.signals[i] {
-            Reading::On => Some(true),
-            Reading::Off => Some(false),
-            Reading::Open => None,
-        }
+        self.signals.get(signal as usize).copied().flatten()
     }
 }
 
@@ -56,8 +40,6 @@ impl Known for Row<'_> {
 }
 
 /// A step by a row and a closing by what is known keep the meaning, on every run of which they are true.
-pub fn readings_keep_meaning() -> u8
+pub fn readings_keep_meaning()
     ensures { ReadingsKeepMeaning }
-{
-    0
-}
+{}

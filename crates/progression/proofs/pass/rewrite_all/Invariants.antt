@@ -1,12 +1,14 @@
-use Rattle.std.proofs.Common.{◌≡◌, ◌*◌, ◌≤◌, vec_len}
-use Rattle.parts.specs.Places.{in_use, Sound, Grown}
+use Rattle.std.proofs.Common.{◌≡◌, ◌*◌, ◌≤◌, length, vec_capacity, vec_items, vec_len}
+use Rattle.parts.specs.Places.{Grown}
+use Rattle.parts.specs.Tables.{SameLoan, parts_in}
 use Rattle.progression.specs.Passes.{Imaged}
 use Rattle.progression.proofs.pass.rewrite_all.Given as goal
 
-abbrev pub invariant-loop-i : goal.invariant-loop-i
-invariant-loop-i g l =
-    (vec_len l.places ≡ 769)
-    × Grown (2 * l.i) (in_use l.initial.used l.initial.places) (in_use l.used l.places)
-    × Sound (in_use l.used l.places)
-    × Imaged (g.R.Rewrite.to l.by) (in_use l.used l.places) l.images l.i
-    × (l.used ≤ 768)
+abbrev pub invariant-loop-at : goal.invariant-loop-at
+invariant-loop-at g l = record {
+  loan : SameLoan l.fn.lent l.lent;
+  grown : Grown (2 * l.at) (parts_in l.fn.lent) (parts_in l.lent);
+  imaged : Imaged (g.R.Rewrite.to l.by) (parts_in l.lent) (vec_items l.images);
+  count : vec_len l.images ≡ l.at;
+  capacity : vec_capacity l.images ≡ vec_capacity l.fn.images;
+}

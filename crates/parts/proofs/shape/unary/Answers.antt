@@ -1,6 +1,6 @@
 use Rattle.std.proofs.Common.{rules}
 use Rattle.parts.proofs.Shaping.{not_const_way, not_kept_way, time_way}
-use Rattle.parts.proofs.shapes.unary.Goals as goal
+use Rattle.parts.proofs.shape.unary.Goals as goal
 
 pub returns-in-Const : goal.returns-in-Const
 returns-in-Const c = search (rules, not_const_way)

@@ -1,6 +1,6 @@
 use Rattle.std.proofs.Common.{rules}
 use Rattle.parts.proofs.Shaping.{left_unit_way, right_unit_way, left_zero_way, right_zero_way, alike_way, begun_way, kept_way}
-use Rattle.parts.proofs.shapes.joined.Goals as goal
+use Rattle.parts.proofs.shape.joined.Goals as goal
 
 pub returns-then-is_const : goal.returns-then-is_const
 returns-then-is_const c = search (rules, left_unit_way)
