@@ -1,5 +1,5 @@
 -- The laws of a formula in memory of its own.
-use Rattle.std.proofs.Common.{◌≡◌, ℕ, zero, suc, ◌-◌, ◌*◌, ◌<◌, ◌≤◌, Bool, true, false, cond, List, [], ◌∷◌, ◌++◌, length, get_or, take, drop, Some, None, vec_items, Option, Vec, sym, refl, ap, ◌∙◌, subst, ap₂, arith}
+use Rattle.std.proofs.Common.{rules, ◌≡◌, ℕ, zero, suc, Ok, Err, Result, ◌+◌, ◌-◌, ◌*◌, ◌<◌, ◌≤◌, Bool, true, false, cond, List, [], ◌∷◌, ◌++◌, length, get_or, take, drop, Some, None, vec_items, Option, Vec, sym, refl, ap, ◌∙◌, subst, ap₂, arith}
 use mathlib.Core.Bool.{false≢true}
 use Rattle.std.proofs.lemmas.List.{length_push, get_or_read, with_items_is}
 use Rattle.temporal.specs.Formula.{Formula}
@@ -8,7 +8,8 @@ use Rattle.temporal.specs.Shorten.{same}
 use Rattle.temporal.specs.Parts.{parts, final, alike}
 use Rattle.parts.specs.Places.{node, place, formula, formulas, blank, Grown, Stands, Interned}
 use Rattle.progression.specs.Passes.{Imaged}
-use Rattle.compact.specs.Compacts.{compact_parts, formula_of, constant}
+use Rattle.std.specs.Result.{IsOk}
+use Rattle.compact.specs.Compacts.{Became, compact_parts, formula_of, constant}
 use Rattle.compact.specs.declared.compact.Compact.{Compact}
 use Rattle.parts.specs.declared.part.Unary.TheVariants.{Not, Next, Finally, Globally}
 use Rattle.parts.specs.declared.part.Binary.TheVariants.{Join, Until}
@@ -87,12 +88,14 @@ constant_part f (One Globally a) n = refl
 constant_part f (Two (Join o) x y) n = refl
 constant_part f (Two Until x y) n = refl
 
-module _ (c : Compact) (i n : ℕ) (e : n ≡ length (compact_parts c)) (q : i ≡ n - 1) where
-  in_last : i < length (compact_parts c)
-  in_last = let h = c.some in omega arith
+module _ (c : Compact) (i : ℕ) (q : i + 1 ≡ length (compact_parts c)) where
+  pub in_last : i < length (compact_parts c)
+  in_last = omega arith
 
-  at_last : formula (compact_parts c) i ≡ formula_of c
-  at_last = ap (formula (compact_parts c)) q ∙ top_formula c n e
+  pub at_last : formula (compact_parts c) i ≡ formula_of c
+  at_last =
+      let p : i ≡ length (compact_parts c) - 1 = omega arith in
+      ap (formula (compact_parts c)) p ∙ top_formula c (length (compact_parts c)) refl
 
   pub constant_at : (b : Bool) → Const b ≡ get_or (compact_parts c) i blank → Some b ≡ constant (formula_of c)
   constant_at b k =
@@ -121,20 +124,13 @@ fresh_walked b ps qs (Some i) e (d, same) =
       omega arith,
     )
 
--- What is read of a Vec that was lent as a slice and came back as ws.
-pub read_back : {X Z : Type 0} (v : Vec X Z) (ws us : List X) (k : ℕ) (x d : X) → length ws ≡ length us → us ≡ vec_items v → k < v.len
-    → x ≡ get_or (take v.len (ws ++ drop (length ws) v.items)) k x → x ≡ get_or ws k d
-read_back v ws us k x d l e h q =
-    let m : length ws ≡ v.len = l ∙ ap length e ∙ sym v.ok.0 in
-    get_or_read ws k x (omega arith) (q ∙ ap (λ z. get_or z k x) (with_items_is v ws m)) d
-
 -- A rewriting of every part: what became of the last formula.
 pub top_stands : (ps qs : List Part) (to : Formula → Formula) (images : List ℕ) (n top : ℕ) → 0 < length ps → n ≡ length ps
-    → Grown (2 * length ps) ps qs → Imaged to qs images (length ps) → top ≡ get_or images (n - 1) 0 → Stands qs (to (final (formulas ps))) top
-top_stands ps qs to images n top h e grown done at =
+    → Grown (2 * length ps) ps qs → length images ≡ length ps → Imaged to qs images → top ≡ get_or images (n - 1) 0 → Stands qs (to (final (formulas ps))) top
+top_stands ps qs to images n top h e grown m done at =
     let l : n - 1 < length ps = omega arith in
     subst (Stands qs (to (final (formulas ps)))) (sym at)
-    (subst (λ f. Stands qs (to f) (get_or images (n - 1) 0)) (formula_front ps qs (n - 1) grown.front l ∙ last_formula ps n h e) (done (n - 1) l))
+    (subst (λ f. Stands qs (to f) (get_or images (n - 1) 0)) (formula_front ps qs (n - 1) grown.front l ∙ last_formula ps n h e) (done (n - 1) (omega arith)))
 
 -- What the table is once it has adopted what was written.
 pub adopted : (f : Formula) (ps qs : List Part) (r : ℕ) → formulas qs ≡ parts f → ps ≡ qs → length qs ≡ r → r ≤ 256
@@ -142,3 +138,14 @@ pub adopted : (f : Formula) (ps qs : List Part) (r : ℕ) → formulas qs ≡ pa
 adopted f ps qs r w e l h =
     let a = walked_alike ps f (ap formulas e ∙ w) in
     (a.0, omega (arith, ap length e), a.2, a.1)
+
+-- A formula becomes what another is: it has no more parts than it may.
+pub became_ok : {E : Type 0} (c d o : Compact) (i : ℕ) (r : Result (Unit {0}) E) → i + 1 ≡ length (compact_parts o)
+    → Became c d (formula (compact_parts o) i) r → IsOk r
+became_ok c d o i (Ok u) q b = search rules
+became_ok c d o i (Err e) q b = absurd (omega (arith, b.0, o.few, counted o, ap (λ f. length (parts f)) (at_last o i q)))
+
+pub became_it : {E : Type 0} (c d o : Compact) (i : ℕ) (r : Result (Unit {0}) E) → i + 1 ≡ length (compact_parts o)
+    → Became c d (formula (compact_parts o) i) r → IsOk r → formula_of d ≡ formula_of o
+became_it c d o i (Ok u) q b h = b ∙ at_last o i q
+became_it c d o i (Err e) q b h = absurd (search rules)

@@ -1,7 +1,7 @@
 -- The laws of numbering.
-use Rattle.std.proofs.Common.{◌≡◌, ℕ, zero, suc, ◌<◌, ◌≤◌, true, ◌⊎◌, List, [], ◌∷◌, ◌++◌, length, get_or, set, sym, refl, ap, ◌∙◌, subst, ap₂, inl, inr, arith, length-set}
+use Rattle.std.proofs.Common.{◌≡◌, ℕ, zero, suc, Some, None, Option, ◌<◌, ◌≤◌, true, ◌⊎◌, List, [], ◌∷◌, ◌++◌, length, get_or, replicate, set, sym, refl, ap, ◌∙◌, subst, ap₂, inl, inr, arith, length-set}
 use native.Mathlib.Decide.{ℕ_discrete}
-use Rattle.std.proofs.lemmas.List.{length_push, get_or-set_same, get_or-set_other}
+use Rattle.std.proofs.lemmas.List.{length_push, get_or-set_same, get_or-set_other, get_or_read, get_or-replicate, length-replicate}
 use Rattle.temporal.specs.Formula.{Formula}
 use Rattle.temporal.specs.Parts.{In, Distinct, Part as PartOf, Whole, walk}
 use Rattle.parts.specs.Places.{one, two, node, place, formula, formulas, blank, reach, short, Sound, OperandsFirst, Grown, Stands}
@@ -15,7 +15,13 @@ use Rattle.parts.specs.declared.part.Part.TheVariants.{Const, Signal, Open, One,
 use Rattle.temporal.proofs.Lists.{in_either, in_same, no_longer}
 use Rattle.temporal.proofs.Parts.{walk_distinct, walk_only}
 use Rattle.temporal.proofs.Order.{under, walk_under, finish_new, not_under, whole_walk, all_listed}
-use Rattle.parts.proofs.Places.{formula_node, formula_part, node_same, formulas_length, formulas_push, push_new, apart, grown_push, grown_on, stands_on, ordered_push}
+use Rattle.parts.proofs.Places.{formula_node, formula_part, node_same, formulas_length, formulas_push, push_new, apart, grown_none, grown_push, grown_on, stands_on, ordered_push}
+
+some_none : {n : ℕ} → Some n ≡ None → ⊥
+some_none e = let z : ◌≡◌ {A = ℕ} 0 1 = cc in omega arith
+
+some_same : {m n : ℕ} → Some m ≡ Some n → m ≡ n
+some_same e = cc
 
 -- Membership by place.
 in_at : (fs : List Formula) (k : ℕ) → k < length fs → In (place fs k) fs
@@ -74,7 +80,7 @@ module _ (ps : List Part) (s : Sound ps) (i : ℕ) (h : i < length ps) where
       ]
 
   -- A part with no number yet has room.
-  pub room : (ns : List ℕ) (qs : List Part) → Numbered ps ns qs → get_or ns i 0 ≡ 65535 → length qs < length ps
+  pub room : (ns : List (Option ℕ)) (qs : List Part) → Numbered ps ns qs → get_or ns i None ≡ None → length qs < length ps
   room ns qs n e =
       let f = formula ps i in
       let xs = formulas qs in
@@ -87,9 +93,9 @@ module _ (ps : List Part) (s : Sound ps) (i : ℕ) (h : i < length ps) where
       omega (arith, formulas_length qs, formulas_length ps)
 
   -- A number is where the walk ends at once.
-  pub old_walk : (ns : List ℕ) (qs : List Part) → Numbered ps ns qs → (get_or ns i 0 ≡ 65535 → ⊥) → formulas qs ≡ walk (formula ps i) (formulas qs)
-  old_walk ns qs n e =
-      sym (all_listed (formula ps i) (formulas qs) (λ x. n.whole (formula ps i) x (in_table qs (formula ps i) (get_or ns i 0) (n.number i h e))))
+  pub old_walk : (ns : List (Option ℕ)) (qs : List Part) (k : ℕ) → Numbered ps ns qs → get_or ns i None ≡ Some k → formulas qs ≡ walk (formula ps i) (formulas qs)
+  old_walk ns qs k n e =
+      sym (all_listed (formula ps i) (formulas qs) (λ x. n.whole (formula ps i) x (in_table qs (formula ps i) k (n.number i k h e))))
 
   -- The part itself is written last.
   pub new_walk : (xs ys : List Formula) → (In (formula ps i) xs → ⊥) → ys ≡ under (formula ps i) xs → ys ++ (formula ps i ∷ []) ≡ walk (formula ps i) xs
@@ -97,24 +103,24 @@ module _ (ps : List Part) (s : Sound ps) (i : ℕ) (h : i < length ps) where
       ap (λ z. z ++ (formula ps i ∷ [])) e
       ∙ sym (walk_under (formula ps i) xs ∙ finish_new (formula ps i) (under (formula ps i) xs) (not_under (formula ps i) xs n))
 
-  pub not_walked : (ns : List ℕ) (qs : List Part) → Numbered ps ns qs → (In (formula ps i) (formulas qs) → ⊥) → get_or ns i 0 ≡ 65535
-  not_walked ns qs n e = go (ℕ_discrete (get_or ns i 0) 65535)
+  pub not_walked : (ns : List (Option ℕ)) (qs : List Part) → Numbered ps ns qs → (In (formula ps i) (formulas qs) → ⊥) → get_or ns i None ≡ None
+  not_walked ns qs n e = go (get_or ns i None) refl
     where
-      go : Dec (get_or ns i 0 ≡ 65535) → get_or ns i 0 ≡ 65535
-      go (yes q) = q
-      go (no q) = absurd (e (in_table qs (formula ps i) (get_or ns i 0) (n.number i h q)))
+      go : (o : Option ℕ) → get_or ns i None ≡ o → get_or ns i None ≡ None
+      go None q = q
+      go (Some k) q = absurd (e (in_table qs (formula ps i) k (n.number i k h q)))
 
   -- The part is written: ns₀ and qs₀ were there at first, ns and qs once its operands were written.
-  pub numbered_push : (ns₀ ns : List ℕ) (qs₀ qs : List Part) (q : Part) → Numbered ps ns₀ qs₀ → Numbered ps ns qs → get_or ns i 0 ≡ 65535
+  pub numbered_push : (ns₀ ns : List (Option ℕ)) (qs₀ qs : List Part) (q : Part) → Numbered ps ns₀ qs₀ → Numbered ps ns qs → get_or ns i None ≡ None
       → reach q ≤ length qs → node (formula qs) q ≡ formula ps i → length ps ≤ 768
-      → formulas qs ++ (formula ps i ∷ []) ≡ walk (formula ps i) (formulas qs₀) → Numbered ps (set ns i (length qs)) (qs ++ q ∷ [])
+      → formulas qs ++ (formula ps i ∷ []) ≡ walk (formula ps i) (formulas qs₀) → Numbered ps (set ns i (Some (length qs))) (qs ++ q ∷ [])
   numbered_push ns₀ ns qs₀ qs q m n e b t few w = record {
-    long = let l = length-set ns i (length qs) in let k = n.long in omega arith;
+    long = let l = length-set ns i (Some (length qs)) in let k = n.long in omega arith;
     ordered = ordered_push qs q n.ordered b;
     distinct = subst Distinct (sym all) (walk_distinct (formula ps i) (formulas qs₀) m.distinct);
     whole = subst Whole (sym all) (whole_walk (formula ps i) (formulas qs₀) m.whole);
     within = λ g k. within_walk (formulas qs₀) m.within g (subst (In g) all k);
-    number = λ k l some. by_place k l some (ℕ_discrete k i);
+    number = λ k m l some. by_place k m l some (ℕ_discrete k i);
     none = λ k l none j. by_none k l none j (ℕ_discrete k i);
   }
     where
@@ -124,26 +130,25 @@ module _ (ps : List Part) (s : Sound ps) (i : ℕ) (h : i < length ps) where
       low : i < length ns
       low = let k = n.long in omega arith
 
-      by_place : (k : ℕ) → k < length ps → (get_or (set ns i (length qs)) k 0 ≡ 65535 → ⊥) → Dec (k ≡ i) → Stands (qs ++ q ∷ []) (formula ps k) (get_or (set ns i (length qs)) k 0)
-      by_place k l some (yes same) =
-          let at : get_or (set ns i (length qs)) k 0 ≡ length qs = ap (λ z. get_or (set ns i (length qs)) z 0) same ∙ get_or-set_same ns i (length qs) 0 low in
+      here : (k : ℕ) → k ≡ i → get_or (set ns i (Some (length qs))) k None ≡ Some (length qs)
+      here k same = ap (λ z. get_or (set ns i (Some (length qs))) z None) same ∙ get_or-set_same ns i (Some (length qs)) None low
+
+      by_place : (k m : ℕ) → k < length ps → get_or (set ns i (Some (length qs))) k None ≡ Some m → Dec (k ≡ i) → Stands (qs ++ q ∷ []) (formula ps k) m
+      by_place k m l some (yes same) =
+          let at : length qs ≡ m = some_same (sym (here k same) ∙ some) in
           let p = length_push qs q in
-          subst (Stands (qs ++ q ∷ []) (formula ps k)) (sym at) record {
+          subst (Stands (qs ++ q ∷ []) (formula ps k)) at record {
             inside = omega arith;
             formula_is = push_new qs q ∙ t ∙ ap (formula ps) (sym same);
           }
-      by_place k l some (no ne) =
-          let at = get_or-set_other ns i k (length qs) 0 ne in
-          subst (Stands (qs ++ q ∷ []) (formula ps k)) (sym at)
-          (stands_on 1 qs (qs ++ q ∷ []) (formula ps k) (get_or ns k 0) (grown_push qs q) (n.number k l (λ z. some (at ∙ z))))
+      by_place k m l some (no ne) =
+          stands_on 1 qs (qs ++ q ∷ []) (formula ps k) m (grown_push qs q)
+          (n.number k m l (sym (get_or-set_other ns i k (Some (length qs)) None ne) ∙ some))
 
-      by_none : (k : ℕ) → k < length ps → get_or (set ns i (length qs)) k 0 ≡ 65535 → In (formula ps k) (formulas (qs ++ q ∷ [])) → Dec (k ≡ i) → ⊥
-      by_none k l none j (yes same) =
-          let at : get_or (set ns i (length qs)) k 0 ≡ length qs = ap (λ z. get_or (set ns i (length qs)) z 0) same ∙ get_or-set_same ns i (length qs) 0 low in
-          let r = room ns qs n e in
-          omega arith
+      by_none : (k : ℕ) → k < length ps → get_or (set ns i (Some (length qs))) k None ≡ None → In (formula ps k) (formulas (qs ++ q ∷ [])) → Dec (k ≡ i) → ⊥
+      by_none k l none j (yes same) = some_none (sym (here k same) ∙ none)
       by_none k l none j (no ne) =
-          let at = get_or-set_other ns i k (length qs) 0 ne in
+          let at = get_or-set_other ns i k (Some (length qs)) None ne in
           elim (in_either (formula ps k) (formulas qs) (node (formula qs) q ∷ []) (subst (In (formula ps k)) (formulas_push qs q) j)) [
             | inl a ↦ n.none k l (sym at ∙ none) a
             | inr (inl a) ↦ ne (apart ps s.once k i l h (a ∙ t))
@@ -169,17 +174,17 @@ under_two (Join o) f g xs = refl
 under_two Until f g xs = refl
 
 -- One call of the walk: what it comes to once the operands are written.
-module _ (ps : List Part) (s : Sound ps) (few : length ps ≤ 768) (i : ℕ) (h : i < length ps) (ns₀ : List ℕ) (qs₀ : List Part)
-    (m : Numbered ps ns₀ qs₀) (unseen : get_or ns₀ i 0 ≡ 65535) where
+module _ (ps : List Part) (s : Sound ps) (few : length ps ≤ 768) (i : ℕ) (h : i < length ps) (ns₀ : List (Option ℕ)) (qs₀ : List Part)
+    (m : Numbered ps ns₀ qs₀) (unseen : get_or ns₀ i None ≡ None) where
   -- the part itself has no number yet
-  pub still_none : (ns : List ℕ) (qs : List Part) → Numbered ps ns qs → formulas qs ≡ under (formula ps i) (formulas qs₀) → get_or ns i 0 ≡ 65535
+  pub still_none : (ns : List (Option ℕ)) (qs : List Part) → Numbered ps ns qs → formulas qs ≡ under (formula ps i) (formulas qs₀) → get_or ns i None ≡ None
   still_none ns qs n w =
       not_walked ps s i h ns qs n
       (λ k. not_under (formula ps i) (formulas qs₀) (m.none i h unseen) (subst (In (formula ps i)) w k))
 
-  pub written : (ns : List ℕ) (qs : List Part) (q : Part) → Numbered ps ns qs → Grown 768 qs₀ qs → formulas qs ≡ under (formula ps i) (formulas qs₀)
+  pub written : (ns : List (Option ℕ)) (qs : List Part) (q : Part) → Numbered ps ns qs → Grown 768 qs₀ qs → formulas qs ≡ under (formula ps i) (formulas qs₀)
       → reach q ≤ length qs → node (formula qs) q ≡ formula ps i
-      → (r : ℕ) (ms : List ℕ) (rs : List Part) → r ≡ length qs → ms ≡ set ns i r → rs ≡ qs ++ q ∷ []
+      → (r : ℕ) (ms : List (Option ℕ)) (rs : List Part) → r ≡ length qs → ms ≡ set ns i (Some r) → rs ≡ qs ++ q ∷ []
       → Numbered ps ms rs × (formulas rs ≡ walk (formula ps i) (formulas qs₀)) × Stands rs (formula ps i) r × Grown 768 qs₀ rs
   written ns qs q n g w b t r ms rs er em es =
       rw (em, es, er) (
@@ -193,7 +198,7 @@ module _ (ps : List Part) (s : Sound ps) (few : length ps ≤ 768) (i : ℕ) (h 
         },
       )
     where
-      none : get_or ns i 0 ≡ 65535
+      none : get_or ns i None ≡ None
       none = still_none ns qs n w
 
       last : formulas qs ++ (formula ps i ∷ []) ≡ walk (formula ps i) (formulas qs₀)
@@ -239,19 +244,6 @@ module _ (ps : List Part) (s : Sound ps) (i : ℕ) (h : i < length ps) (xs : Lis
   new_leaf qs r =
       (omega arith, node_same (formula qs) (formula ps) 0 (λ k l. absurd (omega arith)) (get_or ps i blank) (omega arith) ∙ sym (formula_node ps i s.ordered h))
 
--- Nothing is written yet.
-pub none_yet : (ps : List Part) (ns : List ℕ) → length ps ≤ length ns → ((k : ℕ) → k < length ns → get_or ns k 0 ≡ 65535) → Numbered ps ns []
-unfolding formulas
-none_yet ps ns l all = record {
-  long = l;
-  ordered = λ i h. absurd (omega arith);
-  distinct = tt;
-  whole = λ g x k. absurd k;
-  within = λ g k. absurd k;
-  number = λ k h some. absurd (some (all k (omega arith)));
-  none = λ k h e j. j;
-}
-
 -- What is written is a sound table again.
 found_at : (f : Formula) (fs : List Formula) → In f fs → (k : ℕ) × (k < length fs) × (place fs k ≡ f)
 found_at f [] k = absurd k
@@ -266,7 +258,7 @@ distinct_at (f ∷ fs) d zero (suc j) h e =
 distinct_at (f ∷ fs) d (suc i) zero h e = omega (arith, h.0)
 distinct_at (f ∷ fs) d (suc i) (suc j) h e = distinct_at fs d.1 i j (omega (arith, h.0), omega (arith, h.1)) e
 
-pub numbered_sound : (ps : List Part) (ns : List ℕ) (qs : List Part) → Sound ps → Numbered ps ns qs → Sound qs
+pub numbered_sound : (ps : List Part) (ns : List (Option ℕ)) (qs : List Part) → Sound ps → Numbered ps ns qs → Sound qs
 numbered_sound ps ns qs s n = record {
   ordered = n.ordered;
   once = λ i j h e. distinct_at (formulas qs) n.distinct i j (h.0, (let l = formulas_length qs in omega (arith, h.1))) e;
@@ -275,6 +267,79 @@ numbered_sound ps ns qs s n = record {
       let m = formulas_length ps in
       let w = found_at (formula qs i) (formulas ps) (n.within (formula qs i) (in_at (formulas qs) i (omega arith))) in
       subst (λ f. short f ≡ true) w.2 (s.short w.0 (let k = w.1 in omega arith));
+}
+
+-- Before a part is written, and once it is.
+pub record Walked (ps : List Part) (i : ℕ) (qs₀ : List Part) (ms : List (Option ℕ)) (rs : List Part) (r : ℕ) : Type 0 where
+  pub numbered : Numbered ps ms rs
+  pub walked : formulas rs ≡ walk (formula ps i) (formulas qs₀)
+  pub stands : Stands rs (formula ps i) r
+  pub grown : Grown 768 qs₀ rs
+
+pub record Ready (ps : List Part) (i : ℕ) (qs₀ : List Part) (ns : List (Option ℕ)) (qs : List Part) (q : Part) : Type 0 where
+  pub room : length qs < 768
+  pub sound : Sound (qs ++ q ∷ [])
+  pub after : (r : ℕ) (ms : List (Option ℕ)) (rs : List Part) → r ≡ length qs → ms ≡ set ns i (Some r) → rs ≡ qs ++ q ∷ [] → Walked ps i qs₀ ms rs r
+
+module _ (ps : List Part) (s : Sound ps) (few : length ps ≤ 768) (i : ℕ) (h : i < length ps) (ns₀ : List (Option ℕ)) (qs₀ : List Part)
+    (m : Numbered ps ns₀ qs₀) (unseen : get_or ns₀ i None ≡ None) where
+  ready : (ns : List (Option ℕ)) (qs : List Part) (q : Part) → Numbered ps ns qs → Grown 768 qs₀ qs → formulas qs ≡ under (formula ps i) (formulas qs₀)
+      → (reach q ≤ length qs) × (node (formula qs) q ≡ formula ps i) → Ready ps i qs₀ ns qs q
+  ready ns qs q n g w b =
+      let all = written ps s few i h ns₀ qs₀ m unseen ns qs q n g w b.0 b.1 in
+      record {
+        room = omega (arith, room ps s i h ns qs n (still_none ps s few i h ns₀ qs₀ m unseen ns qs n w));
+        sound = numbered_sound ps _ _ s (all (length qs) _ _ refl refl refl).0;
+        after = λ r ms rs er em es. let z = all r ms rs er em es in record { numbered = z.0; walked = z.1; stands = z.2; grown = z.3 };
+      }
+
+  pub one_ready : (u : Unary) (a x : ℕ) (ns : List (Option ℕ)) (qs : List Part) → get_or ps i blank ≡ One u a → Numbered ps ns qs → Grown 768 qs₀ qs
+      → formulas qs ≡ walk (formula ps a) (formulas qs₀) → Stands qs (formula ps a) x → Ready ps i qs₀ ns qs (One u x)
+  one_ready u a x ns qs e n g w t =
+      ready ns qs (One u x) n g (walked_one ps s i h (formulas qs₀) u a (formulas qs) e w) (new_one ps s i h (formulas qs₀) qs u a x e t)
+
+  pub two_ready : (b : Binary) (a c x y : ℕ) (qs₁ : List Part) (ns : List (Option ℕ)) (qs : List Part) → get_or ps i blank ≡ Two b a c → Numbered ps ns qs
+      → Grown 768 qs₀ qs₁ → Grown 768 qs₁ qs → formulas qs₁ ≡ walk (formula ps a) (formulas qs₀) → formulas qs ≡ walk (formula ps c) (formulas qs₁)
+      → Stands qs₁ (formula ps a) x → Stands qs (formula ps c) y → length qs ≤ 768 → Ready ps i qs₀ ns qs (Two b x y)
+  two_ready b a c x y qs₁ ns qs e n g₁ g w₁ w t₁ t l =
+      ready ns qs (Two b x y) n
+      record {
+        front = (grown_on 768 768 1536 qs₀ qs₁ qs (omega arith) g₁ g).front;
+        more = omega (arith, g₁.more, g.more);
+        few = omega arith;
+      }
+      (walked_two ps s i h (formulas qs₀) b a c (formulas qs₁) (formulas qs) e w₁ w)
+      (new_two ps s i h (formulas qs₀) qs b a c x y e (stands_on 768 qs₁ qs _ x g t₁) t)
+
+  pub leaf_ready : (p : Part) → get_or ps i blank ≡ p → ((u : Unary) (a : ℕ) → get_or ps i blank ≡ One u a → ⊥)
+      → ((b : Binary) (x y : ℕ) → get_or ps i blank ≡ Two b x y → ⊥) → Ready ps i qs₀ ns₀ qs₀ p
+  leaf_ready p e o t =
+      let f = walked_leaf ps s i h (formulas qs₀) o t in
+      subst (Ready ps i qs₀ ns₀ qs₀) e
+      (ready ns₀ qs₀ (get_or ps i blank) m (grown_on 0 0 768 qs₀ qs₀ qs₀ (omega arith) (grown_none qs₀) (grown_none qs₀)) f.0
+      (new_leaf ps s i h (formulas qs₀) qs₀ f.1))
+
+-- Where a number was read.
+pub seen_at : (ns : List (Option ℕ)) (i n : ℕ) (o : Option ℕ) → i < length ns → o ≡ get_or ns i o → o ≡ Some n → get_or ns i None ≡ Some n
+seen_at ns i n o h e q = sym (get_or_read ns i o h e None) ∙ q
+
+pub unseen_at : (ns : List (Option ℕ)) (i : ℕ) (o : Option ℕ) → o ≡ get_or ns i o → o ≡ None → get_or ns i None ≡ None
+unseen_at ns i o e q = cc
+
+abbrev nowhere : Option ℕ
+nowhere = None
+
+-- Nothing is written yet.
+pub none_yet : (ps : List Part) (ns : List (Option ℕ)) (qs : List Part) (n : ℕ) → ns ≡ replicate n None → length ps ≤ n → qs ≡ [] → Numbered ps ns qs
+unfolding formulas
+none_yet ps ns qs n e l q = rw (e, q) record {
+  long = omega (arith, length-replicate n nowhere);
+  ordered = λ i h. absurd (omega arith);
+  distinct = tt;
+  whole = λ g x k. absurd k;
+  within = λ g k. absurd k;
+  number = λ k m h some. absurd (some_none (sym some ∙ get_or-replicate n k nowhere nowhere (omega arith)));
+  none = λ k h e j. j;
 }
 
 pub nothing : formulas [] ≡ []

@@ -1,16 +1,16 @@
 -- The earliest open tick of a part.
-use Rattle.std.proofs.Common.{◌≡◌, ℕ, ◌<◌, List, length, get_or, None, Option, sym, refl, ap, ◌∙◌, ap₂}
+use Rattle.std.proofs.Common.{◌≡◌, ℕ, ◌<◌, ◌≤◌, List, [], ◌∷◌, ◌++◌, length, get_or, None, Option, sym, refl, ap, ◌∙◌, ap₂, arith, below_more}
+use Rattle.std.proofs.lemmas.List.{length_push, get_or_push, get_or_append_left}
 use Rattle.temporal.specs.Formula.{Formula}
-use Rattle.parts.specs.Places.{one, two, node, formula, blank, Sound}
-use Rattle.compact.specs.Ticks.{Ticked}
+use Rattle.parts.specs.Places.{one, two, node, formula, blank, reach, Sound}
+use Rattle.compact.specs.Ticks.{Ticked, tick_in}
 use Rattle.parts.specs.declared.part.Unary.{Unary}
 use Rattle.parts.specs.declared.part.Unary.TheVariants.{Not, Next, Finally, Globally}
 use Rattle.parts.specs.declared.part.Binary.{Binary}
 use Rattle.parts.specs.declared.part.Binary.TheVariants.{Join, Until}
 use Rattle.parts.specs.declared.part.Part.{Part}
-use Rattle.parts.specs.declared.part.Part.TheVariants.{One, Two}
-use Rattle.parts.proofs.Places.{formula_part}
-use Rattle.parts.proofs.Making.{one_low, two_low}
+use Rattle.parts.specs.declared.part.Part.TheVariants.{Const, Signal, Open, One, Two}
+use Rattle.parts.proofs.Places.{formula_node}
 use Rattle.temporal.specs.Earliest.{earlier, earliest}
 
 -- By the top sign of a part.
@@ -24,17 +24,20 @@ earliest_two : (b : Binary) (f g : Formula) → earliest (two b f g) ≡ earlier
 earliest_two (Join o) f g = refl
 earliest_two Until f g = refl
 
-module _ (ps : List Part) (s : Sound ps) (i : ℕ) (h : i < length ps) where
-  pub leaf_tick : (p : Part) → get_or ps i blank ≡ p → (o : Option ℕ) → o ≡ earliest (node (formula ps) p) → o ≡ earliest (formula ps i)
-  leaf_tick p e o q = q ∙ sym (ap earliest (formula_part ps i s.ordered h p e))
+-- By a part over the ticks of its operands.
+pub tick_node : (ps : List Part) (ts : List (Option ℕ)) (p : Part) → Ticked ps ts → reach p ≤ length ts → tick_in ts p ≡ earliest (node (formula ps) p)
+tick_node ps ts (Const b) t h = refl
+tick_node ps ts (Signal q) t h = refl
+tick_node ps ts (Open q s) t h = refl
+tick_node ps ts (One u a) t h = t a (omega arith) ∙ sym (earliest_one u (formula ps a))
+tick_node ps ts (Two b x y) t h = ap₂ earlier (t x (omega arith)) (t y (omega arith)) ∙ sym (earliest_two b (formula ps x) (formula ps y))
 
-  pub one_tick : (u : Unary) (a : ℕ) (ts : List (Option ℕ)) → get_or ps i blank ≡ One u a → Ticked ps ts i → get_or ts a None ≡ earliest (formula ps i)
-  one_tick u a ts e t =
-      leaf_tick (One u a) e (get_or ts a None) (t a (one_low ps i u a s h (sym e)) ∙ sym (earliest_one u (formula ps a)))
-
-  pub two_tick : (b : Binary) (x y : ℕ) (ts : List (Option ℕ)) → get_or ps i blank ≡ Two b x y → Ticked ps ts i
-      → earlier (get_or ts x None) (get_or ts y None) ≡ earliest (formula ps i)
-  two_tick b x y ts e t =
-      let l = two_low ps i b x y s h (sym e) in
-      leaf_tick (Two b x y) e (earlier (get_or ts x None) (get_or ts y None))
-      (ap₂ earlier (t x l.0) (t y l.1) ∙ sym (earliest_two b (formula ps x) (formula ps y)))
+-- One tick more.
+pub ticked_more : (ps : List Part) (ts : List (Option ℕ)) (i : ℕ) (o : Option ℕ) → Sound ps → i ≡ length ts → i < length ps → Ticked ps ts
+    → o ≡ tick_in ts (get_or ps i blank) → Ticked ps (ts ++ o ∷ [])
+ticked_more ps ts i o s q h t e k lt =
+    below_more (λ k. get_or (ts ++ o ∷ []) k None ≡ earliest (formula ps k)) (length ts)
+    (λ k less. get_or_append_left ts (o ∷ []) None k less ∙ t k less)
+    (get_or_push ts o None (length ts) refl ∙ e ∙ tick_node ps ts (get_or ps i blank) t (omega (arith, s.ordered i h))
+    ∙ sym (ap earliest (formula_node ps i s.ordered h)) ∙ ap (λ j. earliest (formula ps j)) q)
+    k (omega (arith, length_push ts o))

@@ -1,8 +1,8 @@
 //! The earliest open tick.
-ghost use Rattle.std.specs.Prelude.{◌≡◌, ◌<◌, ◌≤◌, length, None};
-ghost use Rattle.temporal.specs.Earliest.{earlier, earliest};
-ghost use Rattle.parts.specs.Places.{Sound, blank, formula};
-ghost use Rattle.compact.specs.Ticks.{Ticked};
+ghost use Rattle.std.specs.Prelude.{◌≡◌, ◌≤◌, length, vec_capacity, vec_len};
+ghost use Rattle.temporal.specs.Earliest.{earlier};
+ghost use Rattle.parts.specs.Places.{Sound, reach};
+ghost use Rattle.compact.specs.Ticks.{Ticked, tick_in};
 
 use parts::Part;
 
@@ -10,27 +10,19 @@ use parts::Part;
 pub fn earlier_of(a: Option<u32>, b: Option<u32>) -> Option<u32>
     ensures { result ≡ earlier a b }
 {
-    match a {
-        None => b,
-        Some(x) => match b {
-            None => a,
-            Some(y) => Some(x.min(y)),
-        },
+    match (a, b) {
+        (Some(x), Some(y)) => Some(x.min(y)),
+        _ => a.or(b),
     }
 }
 
-/// The earliest open tick of the part at `at`, where `ticks` has those of the parts before.
-fn tick_of(parts: &[Part], at: usize, ticks: &[Option<u32>]) -> Option<u32>
-    requires sound { Sound parts.now }
-    requires at { at < length parts.now }
-    requires before { at ≤ length ticks.now }
-    requires ticked { Ticked parts.now ticks.now at }
-    ensures { result ≡ earliest (formula parts.now at) }
+/// The earliest open tick of a part, where `ticks` has those of its operands.
+fn tick_of(part: Part, ticks: &[Option<u32>]) -> Option<u32>
+    requires { reach part ≤ length ticks.now }
+    ensures { result ≡ tick_in ticks.now part }
 {
-    let part = parts[at];
     match part {
-        Part::Const(_) => None,
-        Part::Signal(_) => None,
+        Part::Const(_) | Part::Signal(_) => None,
         Part::Open(_, tick) => Some(tick),
         Part::One(_, a) => ticks[a as usize],
         Part::Two(_, a, b) => earlier_of(ticks[a as usize], ticks[b as usize]),
@@ -38,13 +30,16 @@ fn tick_of(parts: &[Part], at: usize, ticks: &[Option<u32>]) -> Option<u32>
 }
 
 /// The earliest open ticks of all parts.
-pub(crate) fn earliest_ticks(parts: &[Part], ticks: &mut [Option<u32>])
+pub(crate) fn earliest_ticks(parts: &[Part], ticks: &mut Vec<Option<u32>>)
     requires sound { Sound parts.now }
-    requires room { length parts.now ≤ length ticks.old }
-    ensures { Ticked parts.now ticks.new (length parts.now) }
+    requires room { length parts.now ≤ vec_capacity ticks.old }
+    ensures ticked { Ticked parts.now ticks.new.items }
+    ensures count { vec_len ticks.new ≡ length parts.now }
+    ensures capacity { vec_capacity ticks.new ≡ vec_capacity ticks.old }
 {
-    for i in 0..parts.len() {
-        let tick = tick_of(parts, i, ticks);
-        ticks[i] = tick;
+    ticks.clear();
+    for part in parts {
+        let tick = tick_of(*part, ticks);
+        ticks.push_reserved(tick);
     }
 }

@@ -2,14 +2,11 @@
 #![tactic(auto)]
 
 mod compact;
-mod compacts;
 mod earliest;
 mod numbering;
 mod workspace;
-mod workspaces;
 
-pub use compact::Compact;
-pub use compacts::{MOST, TooMany};
+pub use compact::{Compact, MOST, TooMany};
 pub use earliest::earlier_of;
-pub use numbering::number;
+pub use numbering::Numbering;
 pub use workspace::Workspace;

@@ -1,94 +1,81 @@
 //! The walk that numbers the parts of a formula.
-ghost use Rattle.std.specs.Prelude.{◌≡◌, ℕ, ◌+◌, ◌<◌, ◌≤◌, [], ◌∷◌, ◌++◌, length, vec_len, slice_index, slice_set};
-ghost use Rattle.temporal.specs.Parts.{parts, walk as walked};
-ghost use Rattle.parts.specs.Places.{in_use, formula, formulas, Sound, Stands, Grown};
-ghost use Rattle.parts.specs.Tables.{parts_of};
-ghost use Rattle.compact.specs.Numbered.{Numbered};
+ghost use Rattle.std.specs.Prelude.{◌≡◌, vec_len};
+ghost use Rattle.parts.specs.Places.{room};
 
 use parts::{Part, Table};
+use std::alloc::{AllocError, Global};
 
-/// The number of a part that is not written yet.
-pub const NONE: u16 = 65535;
-
-/// Writes a part behind the others, as that of the place `at`.
-fn write(at: u16, part: Part, numbers: &mut [u16], out: &mut Vec<Part>, count: &mut usize) -> u16
-    requires at { at < length numbers.old }
-    requires long { vec_len out.old ≡ 769 }
-    requires room { count.old < 768 }
-    ensures value { result ≡ count.old }
-    ensures count { count.new ≡ count.old + 1 }
-    ensures numbers { numbers.new ≡ slice_set numbers.old at result }
-    ensures long { vec_len out.new ≡ 769 }
-    ensures out { in_use count.new out.new ≡ in_use count.old out.old ++ part ∷ [] }
-{
-    let n = *count;
-    out[n] = part;
-    *count = n + 1;
-    numbers[at as usize] = n as u16;
-    n as u16
+/// The parts of a formula in the walk's order, and for each place of the table that they come from its number, once it has one.
+#[derive(Drop)]
+pub struct Numbering {
+    pub(crate) numbers: Vec<Option<u16>>,
+    pub out: Table,
+    ghost long: { vec_len numbers ≡ room },
 }
 
-/// Writes what the part at `at` needs and is not written yet, left before right, and then the part; answers its number.
-pub(crate) fn walk(
-    parts: &[Part],
-    at: u16,
-    numbers: &mut [u16],
-    out: &mut Vec<Part>,
-    count: &mut usize,
-) -> u16
-    requires sound { Sound parts.now }
-    requires few { length parts.now ≤ 768 }
-    requires at { at < length parts.now }
-    requires long { vec_len out.old ≡ 769 }
-    requires count { count.old ≤ 768 }
-    requires numbered { Numbered parts.now numbers.old (in_use count.old out.old) }
-    ensures long { vec_len out.new ≡ 769 }
-    ensures count { count.new ≤ 768 }
-    ensures numbered { Numbered parts.now numbers.new (in_use count.new out.new) }
-    ensures walked { formulas (in_use count.new out.new) ≡ walked (formula parts.now at) (formulas (in_use count.old out.old)) }
-    ensures stands { Stands (in_use count.new out.new) (formula parts.now at) result }
-    ensures grown { Grown 768 (in_use count.old out.old) (in_use count.new out.new) }
-{
-    let seen = numbers[at as usize];
-    if seen != NONE {
-        return seen;
+impl Numbering {
+    ghost use Rattle.std.specs.Prelude.{◌<◌, [], ◌∷◌, ◌++◌, length, IfOk, Some, slice_set};
+    ghost use Rattle.temporal.specs.Parts.{parts, walk as walked};
+    ghost use Rattle.parts.specs.Places.{formula, formulas, Sound, Stands, Grown};
+    ghost use Rattle.parts.specs.Tables.{parts_of};
+    ghost use Rattle.compact.specs.Numbered.{Numbered};
+
+    /// Nothing is numbered; all the memory is taken here.
+    pub fn new(heap: Global) -> Result<Numbering, AllocError>
+        ensures { IfOk result (λ n. parts_of n.out ≡ []) }
+    {
+        let numbers = vec![in heap; None; parts::ROOM]?;
+        let out = Table::new(heap)?;
+        Ok(Numbering { numbers, out })
     }
-    let part = parts[at as usize];
-    match part {
-        Part::One(sign, a) => {
-            let x = walk(parts, a, numbers, out, count);
-            write(at, Part::One(sign, x), numbers, out, count)
+
+    /// Writes a part behind the others, as that of the place `at`.
+    fn write(&mut self, at: u16, part: Part) -> u16
+        requires at { at < room }
+        requires room { length (parts_of self.old.out) < room }
+        requires sound { Sound (parts_of self.old.out ++ part ∷ []) }
+        ensures value { result ≡ length (parts_of self.old.out) }
+        ensures numbers { self.new.numbers.items ≡ slice_set self.old.numbers.items at (Some result) }
+        ensures out { parts_of self.new.out ≡ parts_of self.old.out ++ part ∷ [] }
+    {
+        let number = self.out.push(part);
+        self.numbers[at as usize] = Some(number);
+        number
+    }
+
+    /// Writes what the part at `at` needs and is not written yet, left before right, and then the part; answers its number.
+    fn walk(&mut self, table: &Table, at: u16) -> u16
+        requires at { at < length (parts_of table.now) }
+        requires numbered { Numbered (parts_of table.now) self.old.numbers.items (parts_of self.old.out) }
+        ensures numbered { Numbered (parts_of table.now) self.new.numbers.items (parts_of self.new.out) }
+        ensures walked { formulas (parts_of self.new.out) ≡ walked (formula (parts_of table.now) at) (formulas (parts_of self.old.out)) }
+        ensures stands { Stands (parts_of self.new.out) (formula (parts_of table.now) at) result }
+        ensures grown { Grown room (parts_of self.old.out) (parts_of self.new.out) }
+    {
+        if let Some(number) = self.numbers[at as usize] {
+            return number;
         }
-        Part::Two(sign, a, b) => {
-            let x = walk(parts, a, numbers, out, count);
-            let y = walk(parts, b, numbers, out, count);
-            write(at, Part::Two(sign, x, y), numbers, out, count)
+        match table.part(at) {
+            Part::One(sign, a) => {
+                let x = self.walk(table, a);
+                self.write(at, Part::One(sign, x))
+            }
+            Part::Two(sign, a, b) => {
+                let x = self.walk(table, a);
+                let y = self.walk(table, b);
+                self.write(at, Part::Two(sign, x, y))
+            }
+            leaf => self.write(at, leaf),
         }
-        leaf => write(at, leaf, numbers, out, count),
     }
-}
 
-/// Takes all numbers back.
-pub(crate) fn forget(numbers: &mut [u16])
-    ensures { (k : ℕ) → k < length numbers.new → slice_index numbers.new k ≡ 65535 }
-{
-    for number in numbers.iter_mut() {
-        *number = NONE;
+    /// Writes the parts of the formula at a place of a table in the walk's order, in place of what was written before.
+    pub fn number(&mut self, table: &Table, at: u16)
+        requires { at < length (parts_of table.now) }
+        ensures { formulas (parts_of self.new.out) ≡ parts (formula (parts_of table.now) at) }
+    {
+        self.numbers.fill(None);
+        self.out.cut(0);
+        self.walk(table, at);
     }
-}
-
-/// Writes the parts of the formula at a place of a table in the walk's order; answers how many there are.
-pub fn number(table: &Table, at: u16, numbers: &mut [u16], out: &mut Vec<Part>) -> usize
-    requires at { at < length (parts_of table.now) }
-    requires numbers { length numbers.old ≡ 768 }
-    requires long { vec_len out.old ≡ 769 }
-    ensures long { vec_len out.new ≡ 769 }
-    ensures few { result ≤ 768 }
-    ensures sound { Sound (in_use result out.new) }
-    ensures walked { formulas (in_use result out.new) ≡ parts (formula (parts_of table.now) at) }
-{
-    forget(numbers);
-    let mut count = 0;
-    walk(&table.places[0..table.used], at, numbers, out, &mut count);
-    count
 }

@@ -52,6 +52,9 @@ used_length v u l h = let k = v.ok.0 in length-take-le u (vec_items v) (omega ar
 pub sound_of : (t : Table) → Sound (parts_of t)
 sound_of t = record { ordered = t.ordered; once = t.once; short = t.short }
 
+pub few_of : (t : Table) → length (parts_of t) ≤ 768
+few_of t = omega (arith, used_length t.places t.used t.long t.fits, t.fits)
+
 pub sound_in : (l : Lent) → Sound (parts_in l)
 sound_in l = record { ordered = l.ordered; once = l.once; short = l.short }
 

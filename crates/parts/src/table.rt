@@ -42,6 +42,13 @@ impl Table {
         self.used
     }
 
+    /// The parts, operands before their users.
+    pub fn parts(&self) -> &[Part]
+        ensures { result.now ≡ parts_of self.now }
+    {
+        &self.places[0..self.used]
+    }
+
     /// The part at a place.
     pub fn part(&self, at: u16) -> Part
         requires { at < length (parts_of self.now) }
