@@ -1,7 +1,9 @@
 -- The laws of rules.
-use Rattle.std.proofs.Common.{◌≡◌, ℕ, zero, suc, ◌+◌, ◌-◌, ◌<◌, ◌≤◌, Bool, true, false, cond, ◌⊎◌, List, [], ◌∷◌, ◌++◌, length, get_or, take, Some, None, sym, refl, ap, ◌∙◌, subst, inl, inr, arith, ltb-true, le-ltb, lt-ltb}
+use Rattle.std.proofs.Common.{◌≡◌, ℕ, zero, suc, ◌&&◌, ap₂, ◌+◌, ◌-◌, ◌<◌, ◌≤◌, Bool, true, false, cond, ◌⊎◌, List, [], ◌∷◌, ◌++◌, length, get_or, take, Some, None, sym, refl, ap, ◌∙◌, subst, inl, inr, arith, ltb-true, le-ltb, lt-ltb}
 use mathlib.Core.Bool.{false≢true}
-use Rattle.std.proofs.lemmas.List.{take_more, take_all}
+use Rattle.std.specs.List.{list_all}
+use Rattle.std.proofs.lemmas.List.{take_all}
+use Rattle.std.proofs.lemmas.List.Folds.{list_all_more}
 use Rattle.temporal.specs.Formula.{Formula}
 use Rattle.temporal.specs.Formula.Formula.{const, signal, reading, neg, join, next, finally, globally, until}
 use Rattle.temporal.specs.Obligation.{Open as OpenIn, Closed, Obligation}
@@ -32,42 +34,24 @@ plain_node n f (One Globally a) = refl
 plain_node n f (Two (Join o) x y) = refl
 plain_node n f (Two Until x y) = refl
 
-both_plain : (n : ℕ) (fs : List Formula) (f : Formula) → all_plain n fs ≡ true → plain n f ≡ true → all_plain n (fs ++ f ∷ []) ≡ true
-both_plain n [] f h k = rw k refl
-both_plain n (g ∷ fs) f h k = go (plain n g) h (both_plain n fs f)
-  where
-    go : (b : Bool) → cond b (all_plain n fs) false ≡ true → (all_plain n fs ≡ true → plain n f ≡ true → all_plain n (fs ++ f ∷ []) ≡ true)
-        → cond b (all_plain n (fs ++ f ∷ [])) false ≡ true
-    go true q rest = rest q k
-    go false q rest = q
-
-none_plain : (n : ℕ) (fs : List Formula) (i : ℕ) → i < length fs → plain n (place fs i) ≡ false → all_plain n fs ≡ false
-none_plain n [] i h e = absurd (omega arith)
-none_plain n (f ∷ fs) zero h e = rw e refl
-none_plain n (f ∷ fs) (suc i) h e = go (plain n f) (none_plain n fs i (omega arith) e)
-  where
-    go : (b : Bool) → all_plain n fs ≡ false → cond b (all_plain n fs) false ≡ false
-    go true q = q
-    go false q = refl
-
-module _ (n : ℕ) (ps : List Part) (s : Sound ps) (i : ℕ) where
-  plain_at : i < length ps → plain_part n (get_or ps i blank) ≡ plain n (formula ps i)
-  plain_at h =
-      plain_node n (formula ps) (get_or ps i blank) ∙ ap (plain n) (sym (formula_node ps i s.ordered h))
-
-  pub plain_more : i < length ps → all_plain n (take i (formulas ps)) ≡ true → true ≡ plain_part n (get_or ps i blank) → all_plain n (take (i + 1) (formulas ps)) ≡ true
-  plain_more h e q =
+-- The parts of a table are all plain just if their formulas are.
+module _ (n : ℕ) (ps : List Part) (s : Sound ps) where
+  first_plain : (i : ℕ) → i ≤ length ps → list_all (plain_part n) (take i ps) ≡ all_plain n (take i (formulas ps))
+  first_plain zero h = refl
+  first_plain (suc i) h =
       let l = formulas_length ps in
-      ap (all_plain n) (take_more (formulas ps) i (const false) (omega arith))
-      ∙ both_plain n (take i (formulas ps)) (formula ps i) e (sym (q ∙ plain_at h))
+      let e : suc i ≡ i + 1 = omega arith in
+      let here : plain_part n (get_or ps i blank) ≡ plain n (formula ps i) =
+      plain_node n (formula ps) (get_or ps i blank) ∙ ap (plain n) (sym (formula_node ps i s.ordered (omega arith))) in
+      ap (λ k. list_all (plain_part n) (take k ps)) e ∙ list_all_more (plain_part n) ps i blank (omega arith)
+      ∙ ap₂ (λ a b. a && b) (first_plain i (omega arith)) here
+      ∙ sym (ap (λ k. list_all (plain n) (take k (formulas ps))) e ∙ list_all_more (plain n) (formulas ps) i (const false) (omega arith))
 
-  pub plain_fails : i < length ps → false ≡ plain_part n (get_or ps i blank) → false ≡ all_plain n (formulas ps)
-  plain_fails h q =
-      let l = formulas_length ps in sym (none_plain n (formulas ps) i (omega arith) (sym (q ∙ plain_at h)))
-
-  pub plain_all : length ps ≤ i → all_plain n (take i (formulas ps)) ≡ true → true ≡ all_plain n (formulas ps)
-  plain_all h e =
-      let l = formulas_length ps in sym (ap (all_plain n) (sym (take_all i (formulas ps) (omega arith))) ∙ e)
+  pub parts_plain : list_all (plain_part n) ps ≡ all_plain n (formulas ps)
+  parts_plain =
+      let l = formulas_length ps in
+      ap (list_all (plain_part n)) (sym (take_all (length ps) ps (omega arith))) ∙ first_plain (length ps) (omega arith)
+      ∙ ap (all_plain n) (take_all (length ps) (formulas ps) (omega arith))
 
 -- Each way that a rule is judged.
 module _ (n : ℕ) (f : Formula) (few : n ≤ 32) where
@@ -89,7 +73,7 @@ plain_in : (n : ℕ) (fs : List Formula) → all_plain n fs ≡ true → (f : Fo
 plain_in n [] e f k = absurd k
 plain_in n (g ∷ fs) e f k = go (plain n g) refl e k (plain_in n fs)
   where
-    go : (b : Bool) → plain n g ≡ b → cond b (all_plain n fs) false ≡ true → (f ≡ g) ⊎ In f fs
+    go : (b : Bool) → plain n g ≡ b → (b && all_plain n fs) ≡ true → (f ≡ g) ⊎ In f fs
         → (all_plain n fs ≡ true → (h : Formula) → In h fs → plain n h ≡ true) → plain n f ≡ true
     go true p q (inl s) rest = ap (plain n) s ∙ p
     go true p q (inr j) rest = rest q f j

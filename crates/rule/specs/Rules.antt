@@ -1,5 +1,6 @@
 -- What a rule is, over n signals: shortened, without open readings, its signals below n, of at most 64 parts.
-use Rattle.std.specs.Prelude.{◌≡◌, ℕ, ◌<◌, Bool, true, false, cond, ◌↔◌, List, [], ◌∷◌, length, Some, None, Option, nat_lt}
+use Rattle.std.specs.Prelude.{◌≡◌, ℕ, ◌<◌, Bool, true, false, cond, ◌↔◌, List, length, Some, None, Option, nat_lt}
+use Rattle.std.specs.List.{list_all}
 use Rattle.temporal.specs.Formula.{Formula}
 use Rattle.temporal.specs.Formula.Formula.{const, signal, reading, neg, join, next, finally, globally, until}
 use Rattle.temporal.specs.Obligation.{Closed}
@@ -30,8 +31,7 @@ plain_part n (One u a) = true
 plain_part n (Two b x y) = true
 
 abbrev pub all_plain : ℕ → List Formula → Bool
-all_plain n [] = true
-all_plain n (f ∷ fs) = cond (plain n f) (all_plain n fs) false
+all_plain n fs = list_all (plain n) fs
 
 -- Why a formula is no rule over n signals: the first that fits.
 abbrev pub misfit : ℕ → Formula → Option Misfit

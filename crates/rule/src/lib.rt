@@ -2,9 +2,9 @@
 #![tactic(auto)]
 
 mod misfit;
+mod plain;
 mod rule;
-mod rules;
 
 pub use misfit::Misfit;
-pub use rule::Rule;
-pub use rules::{RULE_PARTS, SIGNALS, plain_means};
+pub use plain::plain_means;
+pub use rule::{RULE_PARTS, Rule, SIGNALS};

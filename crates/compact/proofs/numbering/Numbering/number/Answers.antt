@@ -1,4 +1,4 @@
-use Rattle.std.proofs.Common.{rules, ap, ◌∙◌}
+use Rattle.std.proofs.Common.{◌≡◌, rules, ap, ◌∙◌}
 use Rattle.temporal.specs.Parts.{walk}
 use Rattle.parts.specs.Places.{formula, formulas}
 use Rattle.parts.specs.Tables.{parts_of}
@@ -12,5 +12,7 @@ walk-requires-clause-numbered c =
 
 pub returns : goal.returns
 returns c =
-    c.walk.ensures.walked ∙ ap (λ qs. walk (formula (parts_of c.args.table.now) c.args.at) (formulas qs)) c.cut.ensures
+    let written : formulas (parts_of c.walk.new.self.out) ≡ walk (formula (parts_of c.args.table.now) c.args.at) (formulas (parts_of c.cut.new.self)) =
+    search rules in
+    written ∙ ap (λ qs. walk (formula (parts_of c.args.table.now) c.args.at) (formulas qs)) c.cut.ensures
     ∙ ap (walk (formula (parts_of c.args.table.now) c.args.at)) nothing
