@@ -6,8 +6,9 @@ use Rattle.temporal.specs.Formula.Formula.{const, signal, reading, neg, join, ne
 use Rattle.temporal.specs.Progress.{step, reads, through}
 use Rattle.temporal.proofs.Meaning.{verdict_of_every_run}
 use Rattle.monitor.specs.declared.verdict.Verdict.TheVariants.{False, True}
+use Rattle.monitor.specs.Verdicts.{as_verdict}
 use Rattle.compact.specs.Compacts.{constant}
-use Rattle.monitor.specs.Monitoring.{State, bit, decide, fresh, progressed, stepped, step_hold, unless, calls, with_accepted, accepted, as_verdict, verdict_of, DecidedAt, After, MonitorDecides}
+use Rattle.monitor.specs.Monitoring.{State, bit, decide, fresh, progressed, stepped, step_hold, unless, calls, with_accepted, accepted, verdict_of, DecidedAt, After, MonitorDecides}
 
 some≢none : {A : Type 0} {x : A} → Some x ≡ None → ⊥
 some≢none e = let z : true ≡ false = cc in false≢true (sym z)

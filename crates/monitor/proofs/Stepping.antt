@@ -7,30 +7,19 @@ use Rattle.temporal.specs.Formula.Formula.{const, signal, reading}
 use Rattle.temporal.specs.Progress.{step, reads}
 use Rattle.temporal.specs.Parts.{parts}
 use Rattle.temporal.proofs.Names.{Bare, bare_signal, step_bare, step_agree}
-use Rattle.progression.specs.Readings.{assigned, reading_or, value}
+use Rattle.progression.specs.Readings.{assigned, reading_or}
 use Rattle.compact.specs.Compacts.{constant}
-use Rattle.progression.specs.declared.reading.Reading.{Reading as Shown}
-use Rattle.progression.specs.declared.reading.Reading.TheVariants.{Open}
 use Rattle.rule.specs.Rules.{all_plain}
 use Rattle.rule.proofs.Ruling.{plain_means, open_part, part_open}
-use Rattle.monitor.specs.Monitoring.{State, bit, shown, decide, progressed, stepped, step_hold}
-
--- The row, once it is filled.
-pub row_is : {Z : Type 0} (v : Vec Shown Z) (ws us ds : List Shown) → length ws ≡ length us → us ≡ vec_items v
-    → ds ≡ take v.len (ws ++ drop (length ws) v.items) → ds ≡ ws
-row_is v ws us ds l e q = q ∙ with_items_is v ws (l ∙ ap length e ∙ sym v.ok.0)
-
-shown_value : (p t : ℕ) (b : Bool) → reading_or p t (value (shown b)) ≡ const b
-shown_value p t true = refl
-shown_value p t false = refl
+use Rattle.monitor.specs.Monitoring.{State, bit, decide, progressed, stepped, step_hold}
 
 -- The signals of a plain formula are all in the row, so a step by the row is the step by the whole reading.
-pub same_step : (n t w : ℕ) (row : List Shown) (f : Formula) → n ≤ 32 → all_plain n (parts f) ≡ true
-    → ((k : ℕ) → k < 32 → get_or row k Open ≡ shown (bit w k)) → step (assigned t row) f ≡ step (reads (bit w)) f
+pub same_step : (n t w : ℕ) (row : List (Option Bool)) (f : Formula) → n ≤ 32 → all_plain n (parts f) ≡ true
+    → ((k : ℕ) → k < 32 → get_or row k None ≡ Some (bit w k)) → step (assigned t row) f ≡ step (reads (bit w)) f
 same_step n t w row f few plain filled =
     step_agree (assigned t row) (reads (bit w)) f λ p k.
     let h = ((plain_means n f).0 plain).1 p k in
-    ap (λ r. reading_or p t (value r)) (filled p (omega arith)) ∙ shown_value p t (bit w p)
+    ap (reading_or p t) (filled p (omega arith))
 
 -- A step keeps a formula plain.
 pub plain_kept : (n : ℕ) (a : ℕ → Bool) (f : Formula) → all_plain n (parts f) ≡ true → all_plain n (parts (step (reads a) f)) ≡ true
@@ -56,7 +45,7 @@ module _ (s : State) (w : ℕ) (within : false ≡ leb (2 ^ s.signals) w) (soon 
   pub hold_none : length (parts (progressed s w)) ≤ 256 → step_hold s w ≡ None
   hold_none h = rw (sym within, le-ltb 999999 s.next soon, le-ltb 256 (length (parts (progressed s w))) h) refl
 
--- The state with another obligation; and after a step.
+-- The state with another obligation.
 abbrev pub with_obligation : State → Formula → State
 with_obligation s f = record { signals = s.signals; rule = s.rule; obligation = f; next = s.next; decided = s.decided }
 

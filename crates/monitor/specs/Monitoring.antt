@@ -7,41 +7,19 @@ use Rattle.temporal.specs.Progress.{step, reads, through}
 use Rattle.temporal.specs.Parts.{parts}
 use Rattle.holds.specs.Order.{first_fit}
 use Rattle.compact.specs.Compacts.{constant}
-use Rattle.progression.specs.declared.reading.Reading.{Reading as Shown}
-use Rattle.progression.specs.declared.reading.Reading.TheVariants.{On, Off}
 use Rattle.monitor.specs.declared.verdict.Verdict.{Verdict}
-use Rattle.monitor.specs.declared.verdict.Verdict.TheVariants.{False, True, Undecided}
-use Rattle.monitor.specs.declared.verdict.Hold.{Hold}
-use Rattle.monitor.specs.declared.verdict.Hold.TheVariants.{Reading, Tick, Parts}
+use Rattle.monitor.specs.declared.verdict.Verdict.TheVariants.{False, True}
+use Rattle.monitor.specs.declared.hold.Hold.{Hold}
+use Rattle.monitor.specs.declared.hold.Hold.TheVariants.{Reading, Tick, Parts}
+use Rattle.monitor.specs.Verdicts.{number, as_verdict}
 
--- The numbers of the holds and of the verdicts.
-abbrev pub number : Hold → ℕ
-number Reading = 15
-number Tick = 16
-number Parts = 18
-
-abbrev pub verdict_number : Verdict → ℕ
-verdict_number False = 0
-verdict_number True = 1
-verdict_number Undecided = 2
-
--- The verdict of an obligation: true and false are decided, all else is not.
-abbrev pub as_verdict : Option Bool → Verdict
-as_verdict (Some true) = True
-as_verdict (Some false) = False
-as_verdict None = Undecided
-
+-- The verdict of an obligation.
 abbrev pub verdict_of : Formula → Verdict
 verdict_of f = as_verdict (constant f)
 
 -- Bit j of a whole reading: signal j is on.
 abbrev pub bit : ℕ → ℕ → Bool
 bit w j = (w / 2 ^ j) % 2 == 1
-
--- A signal's bit as a reading.
-abbrev pub shown : Bool → Shown
-shown true = On
-shown false = Off
 
 pub record State : Type 0 where
   pub signals : ℕ

@@ -1,9 +1,8 @@
 //! Whole readings.
-ghost use Rattle.std.specs.Prelude.{◌≡◌, ℕ, ◌^◌, ◌<◌, ◌≤◌, length, nat_le, slice_index_or};
-ghost use Rattle.progression.specs.declared.reading.Reading.{Reading};
-ghost use Rattle.monitor.specs.Monitoring.{bit, shown};
+ghost use Rattle.std.specs.Prelude.{◌≡◌, ℕ, ◌^◌, ◌<◌, ◌≤◌, Some, None, nat_le, slice_index_or};
+ghost use Rattle.monitor.specs.Monitoring.{bit};
 
-use progression::Reading;
+use std::array;
 
 /// Whether a reading has a bit beyond the signals.
 pub(crate) fn is_beyond(signals: u8, reading: u32) -> bool
@@ -14,23 +13,16 @@ pub(crate) fn is_beyond(signals: u8, reading: u32) -> bool
 }
 
 /// What one bit of a reading shows.
-fn bit_of(reading: u32, j: usize) -> Reading
+fn bit_of(reading: u32, j: usize) -> bool
     requires { j < 32 }
-    ensures { result ≡ shown (bit reading j) }
+    ensures { result ≡ bit reading j }
 {
-    if (reading >> j) % 2 == 1 {
-        Reading::On
-    } else {
-        Reading::Off
-    }
+    (reading >> j) % 2 == 1
 }
 
-/// Writes what each bit of a reading shows.
-pub(crate) fn fill(row: &mut [Reading], reading: u32)
-    requires { length row.old ≡ 32 }
-    ensures { (k : ℕ) → k < 32 → slice_index_or row.new k Reading.Open ≡ shown (bit reading k) }
+/// What each bit of a reading shows.
+pub(crate) fn row_of(reading: u32) -> [Option<bool>; 32]
+    ensures { (k : ℕ) → k < 32 → slice_index_or result k None ≡ Some (bit reading k) }
 {
-    for j in 0..32 {
-        row[j] = bit_of(reading, j);
-    }
+    array::from_fn(|j| Some(bit_of(reading, j)))
 }

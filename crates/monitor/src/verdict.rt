@@ -1,21 +1,16 @@
-//! What is known of a rule, and why a step is held back.
-ghost use Rattle.std.specs.Prelude.{◌≡◌};
-ghost use Rattle.monitor.specs.Monitoring.{number as number_of, verdict_number};
+//! What is known of a rule.
+ghost use Rattle.std.specs.Prelude.{◌≡◌, Some};
+ghost use Rattle.monitor.specs.Verdicts.{as_verdict, verdict_letter, verdict_number};
+
+use std::fmt;
 
 /// The rule is broken whatever comes, it is kept whatever comes, or neither is known.
+// No `Option<bool>`: a verdict is printed and has a number, and `Undecided` says more than `None`.
 #[derive(Clone, Copy, PartialEq, Eq, Debug)]
 pub enum Verdict {
-    False,
-    True,
-    Undecided,
-}
-
-/// A bit of the reading lies beyond the signals; the tick would be above 999,999; the new obligation would have over 256 parts.
-#[derive(Clone, Copy, PartialEq, Eq, Debug)]
-pub enum Hold {
-    Reading,
-    Tick,
-    Parts,
+    False = 0,
+    True = 1,
+    Undecided = 2,
 }
 
 impl Verdict {
@@ -23,23 +18,31 @@ impl Verdict {
     pub fn number(self) -> u8
         ensures { result ≡ verdict_number self }
     {
-        match self {
-            Verdict::False => 0,
-            Verdict::True => 1,
-            Verdict::Undecided => 2,
+        self as u8
+    }
+}
+
+impl From<Option<bool>> for Verdict {
+    ghost from_gives = { λ o v. v ≡ as_verdict o };
+
+    fn from(value: Option<bool>) -> Verdict {
+        match value {
+            Some(true) => Verdict::True,
+            Some(false) => Verdict::False,
+            None => Verdict::Undecided,
         }
     }
 }
 
-impl Hold {
-    /// Its number.
-    pub fn number(self) -> u8
-        ensures { result ≡ number_of self }
-    {
-        match self {
-            Hold::Reading => 15,
-            Hold::Tick => 16,
-            Hold::Parts => 18,
-        }
+/// T for true, F for false, ? for undecided.
+impl fmt::Display for Verdict {
+    ghost output = { λ v. Some (verdict_letter v) };
+
+    fn fmt<W: fmt::Write>(&self, f: &mut fmt::Formatter<W>) -> fmt::Result {
+        f.write_str(match self {
+            Verdict::True => "T",
+            Verdict::False => "F",
+            Verdict::Undecided => "?",
+        })
     }
 }

@@ -1,4 +1,6 @@
-use Rattle.std.proofs.Common.{◌≡◌, ◌^◌, ◌<◌, ◌≤◌, false, leb, length, ap, ◌∙◌, subst, arith}
+use Rattle.std.proofs.Common.{rules, ◌≡◌, ◌^◌, ◌<◌, ◌≤◌, false, leb, length, sym, ap, ◌∙◌, subst, arith}
+use Rattle.std.proofs.lemmas.Result.{err_from_is_err_and}
+use Rattle.temporal.specs.Formula.{Formula}
 use Rattle.temporal.specs.Parts.{parts, final}
 use Rattle.temporal.specs.Progress.{step}
 use Rattle.parts.specs.Places.{formulas}
@@ -8,54 +10,43 @@ use Rattle.compact.proofs.Compacting.{counted}
 use Rattle.rule.specs.Rules.{all_plain}
 use Rattle.monitor.specs.Monitoring.{bit, progressed}
 use Rattle.monitor.specs.Monitors.{state_of}
-use Rattle.monitor.proofs.Stepping.{row_is, same_step, plain_kept, hold_parts, hold_none, with_obligation, moved}
+use Rattle.monitor.specs.declared.monitor.Monitor.{Monitor}
+use Rattle.monitor.proofs.Stepping.{same_step, plain_kept, hold_parts, hold_none, with_obligation, moved}
 use Rattle.monitor.proofs.monitor.Monitor.step.Goals as goal
 
-pub returns-in-Err : goal.returns-in-Err
-returns-in-Err c =
+pub returns-in_err-step-clause-state : goal.returns-in_err-step-clause-state
+returns-in_err-step-clause-state c =
     let m = c.args.self.now in
     let w = c.args.reading in
     let f = formula_of m.obligation in
-    let within : false ≡ leb (2 ^ m.rule.signals) w = c.if-is_beyond.ensures ∙ ap (λ k. leb (2 ^ k) w) c.signals.ensures in
-    let r = row_is m.row c.fill.new.row _ c.deref.result.now c.fill.auto.row c.deref_mut.ensures.value c.deref.ensures.value in
-    let e : step (assigned m.next c.deref.result.now) f ≡ progressed (state_of m) w =
-    ap (λ z. step (assigned m.next z) f) r ∙ same_step m.rule.signals m.next w c.fill.new.row f m.rule.few m.plain c.fill.ensures in
-    record {
-      state = (
-        hold_parts (state_of m) w within c.if-self-gt-LAST_TICK.false (subst (λ g. 256 < length (parts g)) e c.in-Err.ensures.0),
-        ap (λ ps. with_obligation (state_of m) (final (formulas ps))) c.in-Err.ensures.1,
-      );
-      table = c.in-Err.ensures.1;
-    }
+    let within : false ≡ leb (2 ^ m.rule.signals) w = search rules in
+    let e : step (assigned m.next c.row_of.result) f ≡ progressed (state_of m) w =
+    same_step m.rule.signals m.next w c.row_of.result f m.rule.few m.plain (search rules) in
+    let p = err_from_is_err_and c.from_residual.result c.from_residual.ensures.1 in
+    rw (p.1, p.2) (
+      hold_parts (state_of m) w within (omega (arith, c.if-self-gt-LAST_TICK.false)) (subst (λ g. 256 < length (parts g)) e c.in_err-step.ensures.0),
+      ap (λ ps. with_obligation (state_of m) (final (formulas ps))) c.in_err-step.ensures.1,
+    )
 
 pub invariant_of-self-2 : goal.invariant_of-self-2
 invariant_of-self-2 c =
     let m = c.args.self.now in
     let w = c.args.reading in
     let f = formula_of m.obligation in
-    let r = row_is m.row c.fill.new.row _ c.deref.result.now c.fill.auto.row c.deref_mut.ensures.value c.deref.ensures.value in
-    let e : step (assigned m.next c.deref.result.now) f ≡ progressed (state_of m) w =
-    ap (λ z. step (assigned m.next z) f) r ∙ same_step m.rule.signals m.next w c.fill.new.row f m.rule.few m.plain c.fill.ensures in
-    record {
-      plain = ap (λ g. all_plain m.rule.signals (parts g)) (c.in_default.ensures ∙ e) ∙ plain_kept m.rule.signals (bit w) f m.plain;
-      row_long = m.row_long;
-    }
+    let e : step (assigned m.next c.row_of.result) f ≡ progressed (state_of m) w =
+    same_step m.rule.signals m.next w c.row_of.result f m.rule.few m.plain (search rules) in
+    record { plain = ap (λ g. all_plain m.rule.signals (parts g)) (c.in_ok-step.ensures ∙ e) ∙ plain_kept m.rule.signals (bit w) f m.plain }
 
-pub returns : goal.returns
-returns c =
+pub returns-clause-state : goal.returns-clause-state
+returns-clause-state c =
     let m = c.args.self.now in
     let w = c.args.reading in
     let f = formula_of m.obligation in
-    let within : false ≡ leb (2 ^ m.rule.signals) w = c.if-is_beyond.ensures ∙ ap (λ k. leb (2 ^ k) w) c.signals.ensures in
-    let r = row_is m.row c.fill.new.row _ c.deref.result.now c.fill.auto.row c.deref_mut.ensures.value c.deref.ensures.value in
-    let e : step (assigned m.next c.deref.result.now) f ≡ progressed (state_of m) w =
-    ap (λ z. step (assigned m.next z) f) r ∙ same_step m.rule.signals m.next w c.fill.new.row f m.rule.few m.plain c.fill.ensures in
-    let q : formula_of c.step.new.self ≡ progressed (state_of m) w = c.in_default.ensures ∙ e in
-    record {
-      state = (
-        hold_none (state_of m) w within c.if-self-gt-LAST_TICK.false
-            (subst (λ g. length (parts g) ≤ 256) q (let k = counted c.step.new.self in omega (arith, c.step.new.self.few))),
-        moved (state_of m) w (formula_of c.step.new.self) c.value.result c.decided_by-self.result q c.value.ensures c.decided_by-self.ensures,
-      );
-      table = tt;
-    }
+    let within : false ≡ leb (2 ^ m.rule.signals) w = search rules in
+    let e : step (assigned m.next c.row_of.result) f ≡ progressed (state_of m) w =
+    same_step m.rule.signals m.next w c.row_of.result f m.rule.few m.plain (search rules) in
+    let q : formula_of c.step.new.self ≡ progressed (state_of m) w = c.in_ok-step.ensures ∙ e in (
+      hold_none (state_of m) w within (omega (arith, c.if-self-gt-LAST_TICK.false))
+          (subst (λ g. length (parts g) ≤ 256) q (let k = counted c.step.new.self in omega (arith, c.step.new.self.few))),
+      moved (state_of m) w (formula_of c.step.new.self) c.value.result c.decided_by-self.result q (search rules) (search rules),
+    )
