@@ -1,12 +1,11 @@
 //! Takes rules and readings from standard input, and prints what the monitor makes of them: the limits from both sides.
 #![tactic(auto)]
 
-mod build;
 mod flight;
 mod shared;
 
 use anyhow::anyhow;
-use flight::{Judged, judge, letter, repeat};
+use flight::{Unfit, monitor_of, repeat};
 use monitor::Monitor;
 use std::alloc::{AllocError, Global};
 
@@ -17,10 +16,11 @@ fn print_steps(
     reading: u32,
     times: u32,
 ) -> anyhow::Result<()> {
-    let (accepted, held) = repeat(monitor, reading, times);
+    let (accepted, hold) = repeat(monitor, reading, times);
+    let held = hold.map_or(0, |hold| hold.number());
     let next = monitor.next_tick();
     let count = monitor.obligation().count();
-    let verdict = letter(monitor.verdict());
+    let verdict = monitor.verdict();
     let decided = monitor.deciding_tick();
     println!(rt;
         "  {reading}: {accepted} of {times}, hold {held}, next {next}, {count} parts, {verdict} {decided:?}"
@@ -49,11 +49,12 @@ fn numbers_of(heap: Global, line: &str) -> Result<Vec<u32>, AllocError> {
 
 /// Prints what a formula comes to over so many signals, and the steps of its monitor.
 fn print_rule(rt: &HostRuntime, text: &str, signals: u8, words: &[u32]) -> anyhow::Result<()> {
-    match judge(rt.alloc(), text.as_bytes(), signals)? {
-        Judged::Unfit(why) => println!(rt; "{text} over {signals}: {why}")?,
-        Judged::Ready(mut monitor) => {
+    match monitor_of(rt.alloc(), text, signals) {
+        Err(Unfit::NoMemory(error)) => return Err(error.into()),
+        Err(why) => println!(rt; "{text} over {signals}: {why}")?,
+        Ok(mut monitor) => {
             let count = monitor.obligation().count();
-            let verdict = letter(monitor.verdict());
+            let verdict = monitor.verdict();
             println!(rt; "{text} over {signals}: {count} parts, {verdict}")?;
             print_flight(rt, &mut monitor, words)?;
         }

@@ -1,16 +1,25 @@
 //! A full table, a formula whose tree is as large as 2 to the power 256, and the closing of open readings.
-use crate::build::{binary, make, unary};
 use compact::{Compact, TooMany, Workspace};
+use monitor::Verdict;
 use parts::{Binary, Table, Unary};
-use progression::{Reading, Row};
+use progression::Row;
 use std::alloc::{AllocError, Global};
+
+/// X over a part of the table.
+fn next(table: &mut Table, x: u16) -> Option<u16> {
+    if usize::from(x) < table.used() {
+        table.unary(Unary::Next, x)
+    } else {
+        None
+    }
+}
 
 /// Fills a table with signals, X of them and X X of them; answers how many parts it then has.
 fn fill(table: &mut Table) -> usize {
     for p in 0..=255u8 {
         if let Some(s) = table.signal(p) {
-            if let Some(x) = unary(table, Unary::Next, s) {
-                let _ = unary(table, Unary::Next, x);
+            if let Some(x) = next(table, s) {
+                let _ = next(table, x);
             }
         }
     }
@@ -21,7 +30,10 @@ fn fill(table: &mut Table) -> usize {
 fn chain(table: &mut Table, length: u16) -> Option<u16> {
     let mut top = table.signal(0)?;
     for _ in 0..length {
-        top = binary(table, Binary::Until, top, top)?;
+        if usize::from(top) >= table.used() {
+            return None;
+        }
+        top = table.binary(Binary::Until, top, top)?;
     }
     Some(top)
 }
@@ -35,7 +47,7 @@ fn formula_at(
 ) -> Result<Compact, AllocError> {
     let mut formula = Compact::new(heap)?;
     if let Some(top) = at {
-        if (top as usize) < table.used() {
+        if usize::from(top) < table.used() {
             let _ = formula.become_part(table, top, space);
         }
     }
@@ -51,18 +63,14 @@ fn print_formula(
     space: &mut Workspace,
 ) -> anyhow::Result<()> {
     let count = formula.count();
-    let verdict = match formula.value() {
-        Some(true) => "T",
-        Some(false) => "F",
-        None => "?",
-    };
+    let verdict = Verdict::from(formula.value());
     let accepted = done.is_ok();
     let open = formula.earliest_open(space);
     println!(rt; "{what}: {accepted}, {count} parts, {verdict}, open from {open:?}")?;
     Ok(())
 }
 
-fn print_chain(rt: &HostRuntime, signals: &[Reading], what: &str) -> anyhow::Result<()> {
+fn print_chain(rt: &HostRuntime, signals: &[Option<bool>], what: &str) -> anyhow::Result<()> {
     let heap = rt.alloc();
     let mut table = Table::new(heap)?;
     let mut space = Workspace::new(heap)?;
@@ -83,7 +91,7 @@ fn print_closed(
     let done = formula.close(
         &Row {
             tick,
-            signals: &[Reading::Open, Reading::On],
+            signals: &[None, Some(true)],
         },
         space,
     );
@@ -95,12 +103,12 @@ fn print_gate(rt: &HostRuntime) -> anyhow::Result<()> {
     let heap = rt.alloc();
     let mut table = Table::new(heap)?;
     let mut space = Workspace::new(heap)?;
-    let top = make(heap, &mut table, b"q!p|G");
+    let top = postfix::make(heap, &mut table, "q!p|G")?;
     let mut formula = formula_at(heap, &table, top, &mut space)?;
     let done = formula.step(
         &Row {
             tick: 1,
-            signals: &[Reading::Off],
+            signals: &[Some(false)],
         },
         &mut space,
     );
@@ -115,8 +123,8 @@ pub(crate) fn print_all(rt: &HostRuntime) -> anyhow::Result<()> {
     let more = table.constant(true).is_some();
     let old = table.signal(0).is_some();
     println!(rt; "full at {used}: a new part {more}, an old one {old}")?;
-    print_chain(rt, &[Reading::On], "chain, on")?;
-    print_chain(rt, &[Reading::Off], "chain, off")?;
+    print_chain(rt, &[Some(true)], "chain, on")?;
+    print_chain(rt, &[Some(false)], "chain, off")?;
     print_chain(rt, &[], "chain, open")?;
     print_gate(rt)
 }

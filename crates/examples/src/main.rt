@@ -18,13 +18,10 @@ fn monitor_of(rt: &HostRuntime, sample: Sample) -> anyhow::Result<Monitor> {
     let mut table = Table::new(heap)?;
     let mut space = Workspace::new(heap)?;
     let mut rule = Rule::new(heap)?;
-    let Some(top) = sample.make(&mut table) else {
-        return Err(anyhow!("the table is full"));
+    let Some(top) = postfix::make(heap, &mut table, sample.postfix)? else {
+        return Err(anyhow!("no formula"));
     };
-    if (top as usize) >= table.used() {
-        return Err(anyhow!("no such part"));
-    }
-    if let Err(_) = rule.become_part(&table, top, sample.signals(), &mut space) {
+    if let Err(_) = rule.become_part(&table, top, sample.signals, &mut space) {
         return Err(anyhow!("no rule"));
     }
     Ok(Monitor::new(heap, &rule)?)
@@ -79,25 +76,25 @@ fn print_step(
 /// Prints one example from its start.
 fn print_run(rt: &HostRuntime, sample: Sample, readings: &[u32]) -> anyhow::Result<()> {
     let mut monitor = monitor_of(rt, sample)?;
-    let rule = sample.text();
+    let rule = sample.text;
     let start = text_of(rt.alloc(), monitor.obligation())?;
     println!(rt; "rule {rule} is read as {start}")?;
     for reading in readings {
-        print_step(rt, &mut monitor, sample.signals(), *reading)?;
+        print_step(rt, &mut monitor, sample.signals, *reading)?;
     }
     Ok(())
 }
 
 fn run(rt: &HostRuntime) -> anyhow::Result<()> {
-    print_run(rt, Sample::FinallyP, &[0, 1, 0])?;
-    print_run(rt, Sample::PUntilQ, &[1, 0])?;
-    print_run(rt, Sample::PUntilQ, &[2])?;
-    print_run(rt, Sample::NextP, &[0, 1])?;
-    print_run(rt, Sample::AlwaysFinallyP, &[0, 0, 1])?;
-    print_run(rt, Sample::PAndPAndQ, &[3])?;
-    print_run(rt, Sample::POrNotP, &[0])?;
-    print_run(rt, Sample::AlwaysTrue, &[0, 1])?;
-    print_run(rt, Sample::FinallyP, &[2, 1])
+    print_run(rt, sample::FINALLY_P, &[0, 1, 0])?;
+    print_run(rt, sample::P_UNTIL_Q, &[1, 0])?;
+    print_run(rt, sample::P_UNTIL_Q, &[2])?;
+    print_run(rt, sample::NEXT_P, &[0, 1])?;
+    print_run(rt, sample::ALWAYS_FINALLY_P, &[0, 0, 1])?;
+    print_run(rt, sample::P_AND_P_AND_Q, &[3])?;
+    print_run(rt, sample::P_OR_NOT_P, &[0])?;
+    print_run(rt, sample::ALWAYS_TRUE, &[0, 1])?;
+    print_run(rt, sample::FINALLY_P, &[2, 1])
 }
 
 fn main(rt: HostRuntime) -> anyhow::Result<()> {

@@ -1,85 +1,51 @@
 //! The rules of the worked examples.
-use parts::{Binary, Junction, Table, Unary};
 
+/// A rule as a sheet has it, with its operands before their signs, and over how many signals it is.
 #[derive(Clone, Copy)]
-pub enum Sample {
-    FinallyP,
-    PUntilQ,
-    NextP,
-    AlwaysFinallyP,
-    PAndPAndQ,
-    POrNotP,
-    AlwaysTrue,
+pub(crate) struct Sample {
+    pub(crate) text: &'static str,
+    pub(crate) postfix: &'static str,
+    pub(crate) signals: u8,
 }
 
-impl Sample {
-    /// As a sheet has it.
-    pub(crate) fn text(self) -> &'static str {
-        match self {
-            Sample::FinallyP => "F p",
-            Sample::PUntilQ => "p U q",
-            Sample::NextP => "X p",
-            Sample::AlwaysFinallyP => "G F p",
-            Sample::PAndPAndQ => "p & (p & q)",
-            Sample::POrNotP => "p | !p",
-            Sample::AlwaysTrue => "G true",
-        }
-    }
+pub(crate) const FINALLY_P: Sample = Sample {
+    text: "F p",
+    postfix: "pF",
+    signals: 1,
+};
 
-    /// Over how many signals it is.
-    pub(crate) fn signals(self) -> u8 {
-        match self {
-            Sample::PUntilQ => 2,
-            Sample::PAndPAndQ => 2,
-            _ => 1,
-        }
-    }
+pub(crate) const P_UNTIL_Q: Sample = Sample {
+    text: "p U q",
+    postfix: "pqU",
+    signals: 2,
+};
 
-    /// Makes it in a table.
-    pub(crate) fn make(self, table: &mut Table) -> Option<u16> {
-        let p = table.signal(0)?;
-        match self {
-            Sample::FinallyP => unary(table, Unary::Finally, p),
-            Sample::NextP => unary(table, Unary::Next, p),
-            Sample::AlwaysFinallyP => {
-                let f = unary(table, Unary::Finally, p)?;
-                unary(table, Unary::Globally, f)
-            }
-            Sample::POrNotP => {
-                let n = unary(table, Unary::Not, p)?;
-                binary(table, Binary::Join(Junction::Or), p, n)
-            }
-            Sample::AlwaysTrue => {
-                let yes = table.constant(true)?;
-                unary(table, Unary::Globally, yes)
-            }
-            Sample::PUntilQ => {
-                let q = table.signal(1)?;
-                binary(table, Binary::Until, p, q)
-            }
-            Sample::PAndPAndQ => {
-                let q = table.signal(1)?;
-                let both = binary(table, Binary::Join(Junction::And), p, q)?;
-                binary(table, Binary::Join(Junction::And), p, both)
-            }
-        }
-    }
-}
+pub(crate) const NEXT_P: Sample = Sample {
+    text: "X p",
+    postfix: "pX",
+    signals: 1,
+};
 
-/// A sign over a part of the table.
-fn unary(table: &mut Table, sign: Unary, x: u16) -> Option<u16> {
-    if (x as usize) < table.used() {
-        table.unary(sign, x)
-    } else {
-        None
-    }
-}
+pub(crate) const ALWAYS_FINALLY_P: Sample = Sample {
+    text: "G F p",
+    postfix: "pFG",
+    signals: 1,
+};
 
-/// A sign over two parts of the table.
-fn binary(table: &mut Table, sign: Binary, x: u16, y: u16) -> Option<u16> {
-    if (x as usize) < table.used() && (y as usize) < table.used() {
-        table.binary(sign, x, y)
-    } else {
-        None
-    }
-}
+pub(crate) const P_AND_P_AND_Q: Sample = Sample {
+    text: "p & (p & q)",
+    postfix: "ppq&&",
+    signals: 2,
+};
+
+pub(crate) const P_OR_NOT_P: Sample = Sample {
+    text: "p | !p",
+    postfix: "pp!|",
+    signals: 1,
+};
+
+pub(crate) const ALWAYS_TRUE: Sample = Sample {
+    text: "G true",
+    postfix: "tG",
+    signals: 1,
+};

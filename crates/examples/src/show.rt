@@ -20,34 +20,11 @@ fn tightness(part: Part) -> u8
     ensures { result < 6 }
 {
     match part {
-        Part::Two(sign, _, _) => match sign {
-            Binary::Join(by) => match by {
-                Junction::Or => 1,
-                Junction::And => 2,
-            },
-            Binary::Until => 3,
-        },
+        Part::Two(Binary::Join(Junction::Or), _, _) => 1,
+        Part::Two(Binary::Join(Junction::And), _, _) => 2,
+        Part::Two(Binary::Until, _, _) => 3,
         Part::One(_, _) => 4,
         _ => 5,
-    }
-}
-
-fn prefix(sign: Unary) -> &'static str {
-    match sign {
-        Unary::Not => "!",
-        Unary::Next => "X ",
-        Unary::Finally => "F ",
-        Unary::Globally => "G ",
-    }
-}
-
-fn infix(sign: Binary) -> &'static str {
-    match sign {
-        Binary::Join(by) => match by {
-            Junction::And => " & ",
-            Junction::Or => " | ",
-        },
-        Binary::Until => " U ",
     }
 }
 
@@ -62,20 +39,20 @@ fn write_bare(formula: &Compact, at: u16, out: &mut String) -> Result<(), AllocE
         Part::Const(false) => out.push_str("false"),
         Part::Signal(p) => out.push_str(name(p)),
         Part::Open(p, tick) => {
-            out.push_str(name(p))?;
-            out.push_str("@")?;
-            let heap = *out.allocator();
-            let text = tick.to_string(heap)?;
-            out.push_str(text.as_str())
+            let name = name(p);
+            write!(out, "{name}@{tick}")
         }
         Part::One(sign, a) => {
-            out.push_str(prefix(sign))?;
+            write!(out, "{sign}")?;
+            if sign != Unary::Not {
+                out.push_str(" ")?;
+            }
             write_part(formula, a, 4, out)
         }
         Part::Two(sign, a, b) => {
             let own = tightness(part);
             write_part(formula, a, own + 1, out)?;
-            out.push_str(infix(sign))?;
+            write!(out, " {sign} ")?;
             write_part(formula, b, own, out)
         }
     }
