@@ -1,7 +1,7 @@
 -- The laws of a formula in memory of its own.
-use Rattle.std.proofs.Common.{rules, ◌≡◌, ℕ, zero, suc, Ok, Err, Result, ◌+◌, ◌-◌, ◌*◌, ◌<◌, ◌≤◌, Bool, true, false, cond, List, [], ◌∷◌, ◌++◌, length, get_or, take, drop, Some, None, vec_items, Option, Vec, sym, refl, ap, ◌∙◌, subst, ap₂, arith}
+use Rattle.std.proofs.Common.{rules, ◌≡◌, ℕ, zero, suc, Ok, Err, Result, ◌+◌, ◌-◌, ◌*◌, ◌<◌, ◌≤◌, Bool, true, false, cond, List, [], ◌∷◌, ◌++◌, length, get_or, Some, None, Option, sym, refl, ap, ◌∙◌, subst, ap₂, arith}
 use mathlib.Core.Bool.{false≢true}
-use Rattle.std.proofs.lemmas.List.{length_push, get_or_read, with_items_is}
+use Rattle.std.proofs.lemmas.List.{length_push}
 use Rattle.temporal.specs.Formula.{Formula}
 use Rattle.temporal.specs.Formula.Formula.{const}
 use Rattle.temporal.specs.Shorten.{same}

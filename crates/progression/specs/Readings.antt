@@ -1,5 +1,5 @@
 -- What is known of the signals, and what it makes of a signal or an open reading.
-use Rattle.std.specs.Prelude.{◌≡◌, ℕ, suc, Bool, true, false, ◌↔◌, List, Some, None, Option, slice_index_or}
+use Rattle.std.specs.Prelude.{◌≡◌, ℕ, suc, Bool, ◌↔◌, List, Some, None, Option, slice_index_or}
 use Rattle.temporal.specs.Formula.{Formula, Run, Holds}
 use Rattle.temporal.specs.Progress.{step, close, Closes}
 use Rattle.temporal.specs.Formula.Formula.{const, reading}

@@ -1,12 +1,7 @@
 use Rattle.std.proofs.Common.{rules, ◌≡◌, [], ◌∷◌, ◌++◌, vec_items, sym, subst, arith}
-use Rattle.compact.specs.Ticks.{Ticked, tick_in}
+use Rattle.compact.specs.Ticks.{Ticked}
 use Rattle.compact.proofs.Ticks.{ticked_more}
-use Rattle.parts.specs.Places.{blank}
 use Rattle.compact.proofs.earliest.earliest_ticks.Goals as goal
-
-pub tick_of-tick-requires : goal.tick_of-tick-requires
-tick_of-tick-requires c =
-    omega (arith, c.requires.sound.ordered c.loop-part.part-index c.loop-part-test.true, c.deref.ensures.len, c.loop-part.invariant.count)
 
 pub loop-part-preserved : goal.loop-part-preserved
 loop-part-preserved c =

@@ -1,4 +1,4 @@
-use Rattle.std.proofs.Common.{◌≡◌, ◌*◌, ◌≤◌, length, vec_capacity, vec_items, vec_len}
+use Rattle.std.proofs.Common.{◌≡◌, ◌*◌, vec_capacity, vec_items, vec_len}
 use Rattle.parts.specs.Places.{Grown}
 use Rattle.parts.specs.Tables.{SameLoan, parts_in}
 use Rattle.progression.specs.Passes.{Imaged}

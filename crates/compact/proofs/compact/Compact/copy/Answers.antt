@@ -1,7 +1,4 @@
 use Rattle.std.proofs.Common.{rules}
-use Rattle.parts.specs.Places.{formula}
-use Rattle.parts.specs.Tables.{parts_of}
-use Rattle.compact.specs.Compacts.{formula_of}
 use Rattle.compact.proofs.Compacting.{became_ok, became_it}
 use Rattle.compact.proofs.compact.Compact.copy.Goals as goal
 

@@ -1,7 +1,6 @@
 use Rattle.std.proofs.Common.{rules, arith}
 use Rattle.parts.specs.Tables.{parts_of}
 use Rattle.parts.proofs.Making.{few_of, sound_of}
-use Rattle.parts.proofs.Places.{grown_none, grown_on}
 use Rattle.compact.proofs.Numbers.{old_walk, one_ready, two_ready, leaf_ready, seen_at, unseen_at}
 use Rattle.compact.proofs.numbering.Numbering.+walk.Goals as goal
 

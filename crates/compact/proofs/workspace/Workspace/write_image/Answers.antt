@@ -1,4 +1,4 @@
-use Rattle.std.proofs.Common.{rules, vec_items, length, ◌-◌, ap, ◌∙◌, arith}
+use Rattle.std.proofs.Common.{rules, vec_items, ◌-◌, ap, ◌∙◌, arith}
 use Rattle.std.proofs.lemmas.List.{get_or_read}
 use Rattle.temporal.specs.Parts.{parts}
 use Rattle.parts.specs.Tables.{parts_in, parts_of}

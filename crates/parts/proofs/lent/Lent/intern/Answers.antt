@@ -1,9 +1,9 @@
-use Rattle.std.proofs.Common.{rules, ◌≡◌, ℕ, ◌+◌, ◌<◌, ◌++◌, [], ◌∷◌, length, set, take, vec_items, sym, subst, arith}
-use Rattle.std.proofs.lemmas.List.{length-take-le, take_more_set}
-use Rattle.parts.specs.Places.{Sound, in_use}
+use Rattle.std.proofs.Common.{rules, ◌<◌, length, vec_items, sym, subst, arith}
+use Rattle.std.proofs.lemmas.List.{take_more_set}
+use Rattle.parts.specs.Places.{Sound}
 use Rattle.parts.specs.Tables.{parts_in}
 use Rattle.parts.specs.declared.lent.Lent.{Lent}
-use Rattle.parts.proofs.Interned.{interned_at, interned_found, interned_full, interned_new, sound_more}
+use Rattle.parts.proofs.Interned.{interned_found, interned_full, interned_new, sound_more}
 use Rattle.parts.proofs.Making.{sound_in, long_in}
 use Rattle.parts.proofs.lent.Lent.intern.Goals as goal
 

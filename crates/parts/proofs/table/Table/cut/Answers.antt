@@ -1,4 +1,4 @@
-use Rattle.std.proofs.Common.{◌≤◌, take, vec_items, sym, subst, arith}
+use Rattle.std.proofs.Common.{◌≤◌, take, vec_items, subst, arith}
 use Rattle.std.proofs.lemmas.List.{take-take, length-take}
 use Rattle.parts.specs.Places.{Sound}
 use Rattle.parts.specs.Tables.{parts_of}
@@ -14,9 +14,3 @@ invariant_of-self c =
     let s : Sound (take c.args.n xs) = subst Sound (take-take c.args.n t.used xs h)
     (sound_take (parts_of t) c.args.n c.requires record { ordered = t.ordered; once = t.once; short = t.short }) in
     record { long = t.long; fits = omega (arith, t.fits); ordered = s.ordered; once = s.once; short = s.short }
-
-pub returns : goal.returns
-returns c =
-    let t = c.args.self.now in
-    let l = length-take t.used (vec_items t.places) in
-    sym (take-take c.args.n t.used (vec_items t.places) (omega (arith, c.requires)))

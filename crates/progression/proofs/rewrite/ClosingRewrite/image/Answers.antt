@@ -1,4 +1,4 @@
-use Rattle.std.proofs.Common.{rules, refl, ap, arith}
+use Rattle.std.proofs.Common.{rules, refl, ap}
 use Rattle.parts.specs.Places.{formula}
 use Rattle.parts.specs.Tables.{parts_in}
 use Rattle.temporal.specs.Progress.{close}

@@ -1,6 +1,4 @@
-use Rattle.std.proofs.Common.{rules, refl, ap, arith}
-use Rattle.parts.specs.Places.{formula}
-use Rattle.parts.specs.Tables.{parts_in}
+use Rattle.std.proofs.Common.{rules, refl, ap}
 use Rattle.temporal.specs.Progress.{step}
 use Rattle.progression.specs.Readings.{assigned, reading_or}
 use Rattle.parts.specs.declared.part.Part.TheVariants.{Const, Open}
