@@ -1,6 +1,7 @@
 -- A rule names no signal but those of its words, and no reading is open in it.
-use Rattle.std.proofs.Common.{◌≡◌, ℕ, suc, ◌<◌, Bool, true, false, cond, ◌⊎◌, List, [], ◌∷◌, ◌++◌, Some, None, refl, inl, inr, arith}
-use Rattle.std.proofs.lemmas.Bool.{leb-false}
+use Rattle.std.proofs.Common.{◌≡◌, ℕ, suc, ◌+◌, ◌<◌, ◌≤◌, Bool, true, false, cond, not, ltb, ◌⊎◌, List, [], ◌∷◌, ◌++◌, length, Some, None, refl, inl, inr, arith}
+use Rattle.std.proofs.lemmas.Bool.{leb-false, ltb-false}
+use Rattle.std.specs.List.{position_or_len}
 use Rattle.temporal.specs.Formula.{Formula}
 use Rattle.temporal.specs.Formula.Formula.{signal}
 use Rattle.temporal.specs.Parts.{Part}
@@ -16,7 +17,7 @@ use Rattle.words.specs.declared.word.Connective.TheVariants.{Implies, Or, And, U
 use Rattle.words.specs.declared.word.Word.{Word}
 use Rattle.words.specs.declared.word.Word.TheVariants.{Infix, Close}
 use Rattle.grammar.specs.Grammar.{connect, Reads, alone, within, sign, between, tighter}
-use Rattle.grammar.specs.Scan.{foreign, unknown_from}
+use Rattle.grammar.specs.Scan.{foreign, unknown}
 use Rattle.grammar.specs.Laws.{KnownMeans}
 
 -- No word is a name that is none of n signals.
@@ -24,14 +25,22 @@ abbrev Known : ℕ → List Word → Type 0
 Known n [] = Unit {0}
 Known n (w ∷ ws) = (foreign n w ≡ false) × Known n ws
 
-none_unknown : (n k : ℕ) (ws : List Word) → unknown_from n k ws ≡ None → Known n ws
-none_unknown n k [] e = tt
-none_unknown n k (w ∷ ws) e = go (none_unknown n (suc k) ws) (foreign n w) refl e
+all_known : (n : ℕ) (ws : List Word) → length ws ≤ position_or_len (foreign n) ws → Known n ws
+all_known n [] l = tt
+all_known n (w ∷ ws) l = go (foreign n w) refl l (all_known n ws)
   where
-    go : (unknown_from n (suc k) ws ≡ None → Known n ws) → (b : Bool) → foreign n w ≡ b → cond b (Some k) (unknown_from n (suc k) ws) ≡ None
-        → (foreign n w ≡ false) × Known n ws
-    go r true t e = let z : ◌≡◌ {A = ℕ} 0 1 = cc in absurd (omega arith)
-    go r false t e = (t, r e)
+    go : (b : Bool) → foreign n w ≡ b → suc (length ws) ≤ cond (not b) (1 + position_or_len (foreign n) ws) 0
+        → (length ws ≤ position_or_len (foreign n) ws → Known n ws) → (foreign n w ≡ false) × Known n ws
+    go true t m r = absurd (omega arith)
+    go false t m r = (t, r (omega arith))
+
+beyond : (k n : ℕ) (b : Bool) → ltb k n ≡ b → cond b (Some k) None ≡ None → n ≤ k
+beyond k n true t e = let z : ◌≡◌ {A = ℕ} 0 1 = cc in absurd (omega arith)
+beyond k n false t e = ltb-false k n t
+
+none_unknown : (n : ℕ) (ws : List Word) → unknown n ws ≡ None → Known n ws
+none_unknown n ws e =
+    all_known n ws (beyond (position_or_len (foreign n) ws) (length ws) (ltb (position_or_len (foreign n) ws) (length ws)) refl e)
 
 known_front : (n : ℕ) (ws vs : List Word) → Known n (ws ++ vs) → Known n ws
 known_front n [] vs h = tt
@@ -102,5 +111,5 @@ closed (tighter d) = closed d
 pub known_means : KnownMeans
 known_means n ws f u d = (
   λ p e k. let l = (shortened_is_owed f (closed d)).before p e k in omega arith,
-  λ p k. names d n (none_unknown n 0 ws u) p (shorten_bare p f k),
+  λ p k. names d n (none_unknown n ws u) p (shorten_bare p f k),
 )
