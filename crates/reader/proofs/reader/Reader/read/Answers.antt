@@ -1,4 +1,5 @@
-use Rattle.std.proofs.Common.{◌≡◌, length, vec_items, sym, subst, arith}
+use Rattle.std.proofs.Common.{◌≡◌, length, vec_items, sym, subst, rules, arith}
+use Rattle.std.specs.Option.{ok_or}
 use Rattle.parts.specs.Tables.{parts_of}
 use Rattle.reader.specs.Answers.{Answers}
 use Rattle.reader.proofs.Whole.{goes_on, stops, answers}
@@ -17,5 +18,6 @@ returns c =
     let words = c.args.words.now in
     let parts = parts_of c.finish.new.self.table in
     let end : c.loop-i.i ≡ length words = omega arith in
-    subst (Answers words parts) (sym c.ok_or.ensures.value)
+    let value : c.ok_or.result ≡ ok_or c.finish.result (record { word = length words }) = search rules in
+    subst (Answers words parts) (sym value)
     (answers words _ c.loop-i.self.held (parts_of c.loop-i.self.table) (vec_items c.loop-i.self.frames) c.loop-i.invariant.1 parts _ end c.finish.ensures)
