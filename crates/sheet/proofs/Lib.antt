@@ -6,3 +6,5 @@ pub mod Lines
 pub mod Wholes
 pub mod Nothing
 pub mod Meanings
+pub mod Mapped
+pub mod Spares
