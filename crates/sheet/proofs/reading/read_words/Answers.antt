@@ -1,6 +1,7 @@
-use Rattle.std.proofs.Common.{rules, sym, ◌∙◌}
+use Rattle.std.proofs.Common.{◌≡◌, Some, rules}
 use Rattle.std.proofs.iter.Serving.{serving}
 use Rattle.parts.specs.Tables.{parts_of}
+use Rattle.grammar.specs.Scan.{unknown}
 use Rattle.reader.specs.Answers.{RuleRead}
 use Rattle.sheet.proofs.Wording.{fault_within, unknown_fits}
 use Rattle.sheet.proofs.reading.read_words.Goals as goal
@@ -14,4 +15,5 @@ map_err-requires c =
 pub returns-in-Some : goal.returns-in-Some
 returns-in-Some c =
     let read : RuleRead c.args.words.now (parts_of c.read.new.self.table) c.in_ok-top.top = search rules in
-    unknown_fits c.args.signals c.args.line c.args.words.now c.in-Some.at _ _ read (sym c.unknown.ensures ∙ c.in-Some.is)
+    let found : unknown c.args.signals c.args.words.now ≡ Some c.in-Some.at = cc in
+    unknown_fits c.args.signals c.args.line c.args.words.now c.in-Some.at _ _ read found

@@ -9,7 +9,13 @@ use Rattle.sheet.proofs.Lines.{lines_split}
 use Rattle.sheet.proofs.Meanings.{meant}
 use Rattle.sheet.proofs.Nothing.{nothing_read}
 use Rattle.sheet.proofs.Wholes.{read_exit, said_is, whole_good, whole_long, whole_unended}
+use Rattle.sheet.proofs.blank.Blank.read.Goals.{In-Some}
 use Rattle.sheet.proofs.blank.Blank.read.Goals as goal
+
+-- The text is its lines and a line end.
+without_end : (c : In-Some) → c.args.text.now ≡ c.in-Some.lines.now ++ 10 ∷ []
+without_end c =
+    rw c.in-Some.is at (strip_suffix_is Decides-eqb c.args.text.now (10 ∷ []) c.strip_suffix.result c.strip_suffix.ensures.cases)
 
 pub returns-then-text-gt-MOST_BYTES : goal.returns-then-text-gt-MOST_BYTES
 returns-then-text-gt-MOST_BYTES c = whole_long c.args.text.now (omega arith)
@@ -21,16 +27,14 @@ returns-in_default c =
 
 pub returns-in_err-read_lines : goal.returns-in_err-read_lines
 returns-in_err-read_lines c =
-    let stripped = strip_suffix_is Decides-eqb c.args.text.now (10 ∷ []) c.strip_suffix.result c.strip_suffix.ensures.cases in
-    let split : c.args.text.now ≡ c.in-Some.lines.now ++ 10 ∷ [] = rw c.in-Some.is at stripped in
+    let split = without_end (goal.at.returns-in_err-read_lines c).In-Some in
     let good = whole_good c.args.text.now _ (omega arith) split _ (nothing_read c.args.self) in
     let parts = ap lines split ∙ lines_split c.in-Some.lines.now in
     read_exit c.args.text.now _ _ c.from_residual.ensures.1 (good ∙ ap (λ z. first_case (lines_holds (draft_so_far c.args.self.reading) 1 z)) parts ∙ c.in_err-read_lines.ensures.draft.0)
 
 pub returns : goal.returns
 returns c =
-    let stripped = strip_suffix_is Decides-eqb c.args.text.now (10 ∷ []) c.strip_suffix.result c.strip_suffix.ensures.cases in
-    let split : c.args.text.now ≡ c.in-Some.lines.now ++ 10 ∷ [] = rw c.in-Some.is at stripped in
+    let split = without_end (goal.at.returns c).In-Some in
     let empty = nothing_read c.args.self in
     let good = whole_good c.args.text.now _ (omega arith) split _ empty in
     let parts = ap lines split ∙ lines_split c.in-Some.lines.now in
