@@ -35,7 +35,7 @@ all_known n (w ∷ ws) l = go (foreign n w) refl l (all_known n ws)
     go false t m r = (t, r (omega arith))
 
 beyond : (k n : ℕ) (b : Bool) → ltb k n ≡ b → cond b (Some k) None ≡ None → n ≤ k
-beyond k n true t e = let z : ◌≡◌ {A = ℕ} 0 1 = cc in absurd (omega arith)
+beyond k n true t e = absurd (cc)
 beyond k n false t e = ltb-false k n t
 
 none_unknown : (n : ℕ) (ws : List Word) → unknown n ws ≡ None → Known n ws
@@ -52,24 +52,24 @@ known_back n (w ∷ ws) vs h = known_back n ws vs h.1
 
 -- The signals and the open readings of what a sign makes are those of its operands.
 one_signal : (p : ℕ) (u : Unary) (f : Formula) → Part (signal p) (one u f) → Part (signal p) f
-one_signal p Not f (inl e) = let z : ◌≡◌ {A = ℕ} 0 1 = cc in absurd (omega arith)
+one_signal p Not f (inl e) = absurd (cc)
 one_signal p Not f (inr k) = k
-one_signal p Next f (inl e) = let z : ◌≡◌ {A = ℕ} 0 1 = cc in absurd (omega arith)
+one_signal p Next f (inl e) = absurd (cc)
 one_signal p Next f (inr k) = k
-one_signal p Finally f (inl e) = let z : ◌≡◌ {A = ℕ} 0 1 = cc in absurd (omega arith)
+one_signal p Finally f (inl e) = absurd (cc)
 one_signal p Finally f (inr k) = k
-one_signal p Globally f (inl e) = let z : ◌≡◌ {A = ℕ} 0 1 = cc in absurd (omega arith)
+one_signal p Globally f (inl e) = absurd (cc)
 one_signal p Globally f (inr k) = k
 
 connect_signal : (p : ℕ) (o : Connective) (f g : Formula) → Part (signal p) (connect o f g) → Part (signal p) f ⊎ Part (signal p) g
-connect_signal p Implies f g (inl e) = let z : ◌≡◌ {A = ℕ} 0 1 = cc in absurd (omega arith)
+connect_signal p Implies f g (inl e) = absurd (cc)
 connect_signal p Implies f g (inr (inl k)) = inl (one_signal p Not f k)
 connect_signal p Implies f g (inr (inr k)) = inr k
-connect_signal p Or f g (inl e) = let z : ◌≡◌ {A = ℕ} 0 1 = cc in absurd (omega arith)
+connect_signal p Or f g (inl e) = absurd (cc)
 connect_signal p Or f g (inr k) = k
-connect_signal p And f g (inl e) = let z : ◌≡◌ {A = ℕ} 0 1 = cc in absurd (omega arith)
+connect_signal p And f g (inl e) = absurd (cc)
 connect_signal p And f g (inr k) = k
-connect_signal p Until f g (inl e) = let z : ◌≡◌ {A = ℕ} 0 1 = cc in absurd (omega arith)
+connect_signal p Until f g (inl e) = absurd (cc)
 connect_signal p Until f g (inr k) = k
 
 one_closed : (u : Unary) (f : Formula) → Closed f → Closed (one u f)
@@ -89,7 +89,7 @@ connect_closed And f g c d = either_closed f g c d
 connect_closed Until f g c d = either_closed f g c d
 
 names : {m : ℕ} {ws : List Word} {f : Formula} → Reads m ws f → (n : ℕ) → Known n ws → (p : ℕ) → Part (signal p) f → p < n
-names (alone (Const b)) n h p k = let z : ◌≡◌ {A = ℕ} 0 1 = cc in absurd (omega arith)
+names (alone (Const b)) n h p k = absurd (cc)
 names (alone (Signal q)) n h p k = let e : p ≡ q = cc in let l = leb-false n q h.0 in omega arith
 names (within {ws = ws} d) n h p k = names d n (known_front n ws (Close ∷ []) h.1) p k
 names (sign u {f = f} d) n h p k = names d n h.1 p (one_signal p u f k)

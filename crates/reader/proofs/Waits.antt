@@ -212,5 +212,5 @@ ends h x y ps qs fs gs n r = go gs r.pair (ap (λ z. ending short (state_of z ps
         ∙ ended_open (formula qs y) (reverse (map (waiting (formula qs)) gs)) (waiting (formula qs) f))
 
 pub not_stuck : (h : Option ℕ) (ps : List Part) (fs : List Frame) → state_of h ps fs ≡ stuck → ⊥
-not_stuck None ps fs e = let z : ◌≡◌ {A = ℕ} 0 1 = cc in omega arith
-not_stuck (Some x) ps fs e = let z : ◌≡◌ {A = ℕ} 0 1 = cc in omega arith
+not_stuck None ps fs e = cc
+not_stuck (Some x) ps fs e = cc

@@ -40,12 +40,12 @@ drafted_break ts want got r f h e =
 
 -- The text has a byte that is in no word, or the list has its words.
 pub cut_none : {A E : Type 0} (o : Option (List Word)) (l : WordList) (r : Result A E) → Cut o l r → (e : E) × (r ≡ Err e) → o ≡ None
-cut_none o l (Ok u) c k = let q = k.1 in let z : ◌≡◌ {A = ℕ} 0 1 = cc in absurd (omega arith)
+cut_none o l (Ok u) c k = let q = k.1 in absurd (cc)
 cut_none o l (Err e) c k = c
 
 pub cut_some : {A E : Type 0} (o : Option (List Word)) (l : WordList) (r : Result A E) (x : A) → Cut o l r → r ≡ Ok x → (ws : List Word) × (o ≡ Some ws) × Holds ws l
 cut_some o l (Ok u) x c q = c
-cut_some o l (Err e) x c q = let z : ◌≡◌ {A = ℕ} 0 1 = cc in absurd (omega arith)
+cut_some o l (Err e) x c q = absurd (cc)
 
 module _ (ps : List Post) (ss : List Signal) (fs : List Formula) (l : ℕ) (text : List ℕ) where
   abbrev draft : Draft

@@ -55,13 +55,13 @@ module _ (ws : List Word) (list : WordList) (xs : List Word) (holds : Holds ws l
     ruled_large e h =
         ⊎_elim
         (λ q. large_fits n l ws short ps top read_all known_all small true q)
-        (λ q. let z : ◌≡◌ {A = ℕ} 0 1 = (let w = ap (λ b. cond b (Some Parts) None) q in cc (fits, w, h)) in absurd (omega arith))
+        (λ q. let w = ap (λ b. cond b (Some Parts) None) q in absurd (cc (fits, w, h)))
         (cases_Bool (ltb 64 (length (parts (formula ps top)))))
 
     ruled_fits : misfit n (formula ps top) ≡ None → first_case (words_holds n l ws) ≡ None
     ruled_fits h =
         ⊎_elim
-        (λ q. let z : ◌≡◌ {A = ℕ} 0 1 = (let w = ap (λ b. cond b (Some Parts) None) q in cc (fits, w, h)) in absurd (omega arith))
+        (λ q. let w = ap (λ b. cond b (Some Parts) None) q in absurd (cc (fits, w, h)))
         (λ q. large_fits n l ws short ps top read_all known_all small false q)
         (cases_Bool (ltb 64 (length (parts (formula ps top)))))
 

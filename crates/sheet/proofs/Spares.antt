@@ -12,14 +12,14 @@ use Rattle.sheet.proofs.Wholes.{none_left, over_none}
 
 pub spare_some : {A : Type 0} (o : Option A) (x : A) (n : ℕ) → o ≡ Some x → length (option_to_list o) + n ≡ 1 → n ≡ 0
 spare_some (Some y) x n e k = omega arith
-spare_some None x n e k = let z : ◌≡◌ {A = ℕ} 0 1 = cc in absurd (omega arith)
+spare_some None x n e k = absurd (cc)
 
 pub spare_none : {A : Type 0} (o : Option A) (n : ℕ) → o ≡ None → length (option_to_list o) + n ≡ 1 → n ≡ 1
-spare_none (Some y) n e k = let z : ◌≡◌ {A = ℕ} 0 1 = cc in absurd (omega arith)
+spare_none (Some y) n e k = absurd (cc)
 spare_none None n e k = omega arith
 
 pub spent : {A : Type 0} (o : Option A) (n : ℕ) → o ≡ None → n ≡ 1 → length (option_to_list o) + n ≡ 1
-spent (Some y) n e k = let z : ◌≡◌ {A = ℕ} 0 1 = cc in absurd (omega arith)
+spent (Some y) n e k = absurd (cc)
 spent None n e k = omega arith
 
 -- The rules so far, as their formulas.

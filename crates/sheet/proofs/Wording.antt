@@ -28,7 +28,7 @@ misplaced_within ws k e = (((misplaced_means ws).1 k).0 e).inside
 
 pub fault_within : (ws : List Word) (ps : List Part) (r : Result ℕ Misplaced) (e : Misplaced) → Answers ws ps r → r ≡ Err e → e.word ≤ length ws
 fault_within ws ps (Err f) e h q = let w : f ≡ e = cc in misplaced_within ws e.word (h ∙ ap (λ z. Some z.word) w)
-fault_within ws ps (Ok t) e h q = let z : ◌≡◌ {A = ℕ} 0 1 = cc in absurd (omega arith)
+fault_within ws ps (Ok t) e h q = absurd (cc)
 
 pub unknown_within : (n : ℕ) (ws : List Word) (k : ℕ) → unknown n ws ≡ Some k → k < length ws
 unknown_within n ws k e = (position-Some (foreign n) ws k Open e).0
