@@ -1,5 +1,5 @@
 -- Shortening carries a run of the machine into the run that shortens as it builds.
-use Rattle.std.proofs.Common.{◌≡◌, ℕ, suc, true, false, cond, leb, List, [], ◌∷◌, map, Some, None, Option, sym, refl, ap, ◌∙◌, arith}
+use Rattle.std.proofs.Common.{◌≡◌, ℕ, suc, true, false, cond, leb, List, [], ◌∷◌, map, Some, None, Option, sym, refl, ap, ◌∙◌}
 use Rattle.temporal.specs.Formula.{Formula}
 use Rattle.temporal.specs.Shorten.{shorten}
 use Rattle.parts.specs.declared.part.Unary.{Unary}

@@ -63,9 +63,6 @@ module _ (n : ℕ) (ps qs : List Part) (g : Formula) (y : ℕ) (made : Made n ps
   stack_made : (fs : List Frame) → reach fs ≤ length ps → stack (formula qs) fs ≡ stack (formula ps) fs
   stack_made fs h = ap reverse (map_made fs h)
 
-  pub reach_made : (fs : List Frame) → reach fs ≤ length ps → reach fs ≤ length qs
-  reach_made fs h = let a = made.grown.more in omega arith
-
 -- A turn of the reduction: gs waited for x over ps, fs waits for y over qs.
 pub record Turn (b : ℕ) (ps : List Part) (gs : List Frame) (x : ℕ) (qs : List Part) (fs : List Frame) (y : ℕ) : Type 0 where
   pub inside : y < length qs

@@ -1,12 +1,10 @@
 -- One line after the other.
-use Rattle.std.proofs.Common.{◌≡◌, ℕ, suc, ◌+◌, ◌<◌, ◌≤◌, Bool, true, false, cond, not, ◌||◌, eqb, List, [], ◌∷◌, ◌++◌, length, drop, drop-cons, is_some, IsErrAnd, OnOk, Some, None, Ok, Err, Option, Result, sym, refl, ap, ◌∙◌, subst, arith}
+use Rattle.std.proofs.Common.{◌≡◌, ℕ, suc, ◌<◌, Bool, true, false, cond, not, ◌||◌, eqb, List, [], ◌∷◌, ◌++◌, length, drop, drop-cons, is_some, IsErrAnd, OnOk, Some, None, Ok, Err, Option, Result, sym, refl, ap, ◌∙◌, subst, arith}
 use Rattle.std.specs.Iterator.{Yields}
 use Rattle.std.specs.List.{onto_first, slice_split}
 use Rattle.std.proofs.lemmas.Iterator.{YieldsList}
 use Rattle.std.proofs.lemmas.Iterator.Consumers.{YieldsList-end, YieldsList-turn}
 use Rattle.std.proofs.lemmas.List.{drop_all, length_push}
-use Rattle.std.proofs.lemmas.List.Splits.{length-slice_split}
-use Rattle.std.proofs.lemmas.List.Sums.{count_by-le-length}
 use Rattle.std.proofs.lemmas.Result.{err_from_is_err_and}
 use Rattle.std.proofs.lemmas.Bool.{true≢false}
 use Rattle.temporal.specs.Formula.{Formula}
@@ -19,20 +17,7 @@ use Rattle.roster.specs.declared.fault.SheetFault.{SheetFault}
 use Rattle.sheet.specs.Sheets.{Drafted}
 use Rattle.sheet.specs.Texts.{Draft, after_line, after_lines, after_rule, is_rule_line, line_holds, lines, lines_holds, none_yet, rule_holds}
 
-pub drafted_as : {A : Type 0} (ts us : Cases Hold) (want ask got : Draft) (r : Result A SheetFault) → first_case us ≡ first_case ts → ask ≡ want → Drafted us ask got r → Drafted ts want got r
-drafted_as ts us want ask got (Ok u) e q h = (sym e ∙ h.0, h.1 ∙ q)
-drafted_as ts us want ask got (Err f) e q h = sym e ∙ h
-
--- A rule line.
-pub as_rule_line : {A : Type 0} (d got : Draft) (l : ℕ) (bs rest : List ℕ) (r : Result A SheetFault) → true ≡ is_rule_line bs → rest ≡ drop 5 bs → Drafted (rule_holds d l rest) (after_rule d rest) got r → Drafted (line_holds d l bs) (after_line d bs) got r
-as_rule_line d got l bs rest r b e =
-    drafted_as (line_holds d l bs) (rule_holds d l rest) (after_line d bs) (after_rule d rest) got r
-    (ap (λ z. first_case (rule_holds d l z)) e
-    ∙ ap (λ t. first_case (cond t (rule_holds d l (drop 5 bs)) (post_holds d.entries (not (none_yet d.rules)) l bs))) b)
-    (ap (after_rule d) e
-    ∙ ap (λ t. cond t (after_rule d (drop 5 bs)) (record { entries = after_post d.entries bs; rules = d.rules })) b)
-
--- Any other, where fs are the rules so far.
+-- A line that is no rule line, where fs are the rules so far.
 pub as_post_line : {A : Type 0} (e got : Entries) (fs : List Formula) (ruled : Bool) (l : ℕ) (bs : List ℕ) (r : Result A SheetFault) → Judged (post_holds e ruled l bs) (after_post e bs) got r → ruled ≡ not (none_yet fs) → is_rule_line bs ≡ false → Drafted (line_holds (record { entries = e; rules = fs }) l bs) (after_line (record { entries = e; rules = fs }) bs) (record { entries = got; rules = fs }) r
 as_post_line e got fs ruled l bs r j k b = go r j
   where
@@ -71,10 +56,6 @@ joins c ps b qs e = ap (λ z. cond b ([] ∷ z) (onto_first c z)) e
 pub lines_split : (bs : List ℕ) → lines (bs ++ 10 ∷ []) ≡ slice_split (λ c. eqb c 10) bs
 lines_split [] = refl
 lines_split (c ∷ bs) = joins c (slice_split (λ b. eqb b 10) bs) (eqb c 10) (lines (bs ++ 10 ∷ [])) (lines_split bs)
-
-pub few_parts : (bs : List ℕ) → length (slice_split (λ c. eqb c 10) bs) ≤ length bs + 1
-few_parts bs =
-    let n = length-slice_split (λ c. eqb c 10) bs in let k = count_by-le-length (λ c. eqb c 10) bs in omega arith
 
 -- The next of the parts that a chain yields; and all of them, where none is left.
 pub next_part : {S A B : Type 0} {steps : S → Option A → S → Type 0} {v : A → B} {s : S} {ls : List B} (xs : List A) (t : S) → Yields steps s xs t → (r : Option A) (u : S) (x : A) → r ≡ Some x → steps t r u → YieldsList steps v s ls

@@ -1,5 +1,5 @@
 -- What `map_err` leaves: an `Ok` as it was, and the one fault for an `Err`.
-use Rattle.std.proofs.Common.{◌≡◌, ℕ, IsErrAnd, Ok, Err, Result, refl, ap, arith}
+use Rattle.std.proofs.Common.{◌≡◌, IsErrAnd, Ok, Err, Result, refl, ap}
 use Rattle.std.specs.Result.{MatchResult}
 use Rattle.std.proofs.lemmas.Result.{err_from_is_err_and}
 

@@ -4,11 +4,20 @@ use Rattle.std.specs.List.{All}
 use Rattle.std.specs.Option.{option_to_list}
 use Rattle.std.proofs.lemmas.List.Elements.{All-push}
 use Rattle.std.proofs.lemmas.Bool.{ne_eqb, true≢false}
+use Rattle.std.proofs.lemmas.List.{nil_from_length}
 use Rattle.rule.specs.Ruled.{rule_formula}
 use Rattle.rule.specs.declared.rule.Rule.{Rule}
 use Rattle.sheet.specs.Rules.{signals_of}
 use Rattle.sheet.specs.Texts.{none_yet}
-use Rattle.sheet.proofs.Wholes.{none_left, over_none}
+use Rattle.sheet.proofs.Wholes.{over_none}
+
+-- Whether there is any, by the number.
+counted_as : {A B : Type 0} (f : A → B) (xs : List A) → eqb (length xs) 0 ≡ none_yet (map f xs)
+counted_as f [] = refl
+counted_as f (x ∷ xs) = ne_eqb (suc (length xs)) 0 (λ e. omega arith)
+
+pub counted : {A B : Type 0} (f : A → B) (xs : List A) (n : ℕ) → n ≡ length xs → eqb n 0 ≡ none_yet (map f xs)
+counted f xs n e = ap (λ k. eqb k 0) e ∙ counted_as f xs
 
 pub spare_some : {A : Type 0} (o : Option A) (x : A) (n : ℕ) → o ≡ Some x → length (option_to_list o) + n ≡ 1 → n ≡ 0
 spare_some (Some y) x n e k = omega arith
@@ -24,18 +33,11 @@ spent None n e k = omega arith
 
 -- The rules so far, as their formulas.
 pub unread : (xs : List Rule) → length xs ≡ 0 → map rule_formula xs ≡ []
-unread xs h = ap (map rule_formula) (none_left xs h)
-
-read_before : {A B : Type 0} (f : A → B) (xs : List A) → length xs ≡ 1 → none_yet (map f xs) ≡ false
-read_before f [] h = absurd (omega arith)
-read_before f (x ∷ xs) h = refl
-
-pub some_read : (xs : List Rule) → length xs ≡ 1 → none_yet (map rule_formula xs) ≡ false
-some_read xs h = read_before rule_formula xs h
+unread xs h = ap (map rule_formula) (nil_from_length xs h)
 
 -- The one rule read.
 pub one_read : (xs ys : List Rule) (r : Rule) → length xs ≡ 0 → ys ≡ xs ++ r ∷ [] → map rule_formula ys ≡ rule_formula r ∷ []
-one_read xs ys r h e = ap (map rule_formula) (e ∙ ap (λ z. z ++ r ∷ []) (none_left xs h))
+one_read xs ys r h e = ap (map rule_formula) (e ∙ ap (λ z. z ++ r ∷ []) (nil_from_length xs h))
 
 -- It is over all the signals.
 pub over_one : (xs ys : List Rule) (r : Rule) (n : ℕ) → length xs ≡ 0 → ys ≡ xs ++ r ∷ [] → r.signals ≡ n → All (λ q. q.signals ≡ n) ys
@@ -45,14 +47,6 @@ over_one xs ys r n h e s =
 pub first_over : (xs : List Rule) (n : ℕ) → length xs ≡ 1 → All (λ q. q.signals ≡ n) xs → signals_of xs ≡ n
 first_over [] n h a = absurd (omega arith)
 first_over (x ∷ xs) n h a = a 0 x (omega arith)
-
--- Whether a rule was read, by the number of rules.
-counted_as : {A B : Type 0} (f : A → B) (xs : List A) → eqb (length xs) 0 ≡ none_yet (map f xs)
-counted_as f [] = refl
-counted_as f (x ∷ xs) = ne_eqb (suc (length xs)) 0 (λ e. omega arith)
-
-pub counted : (xs : List Rule) (n : ℕ) → n ≡ length xs → eqb n 0 ≡ none_yet (map rule_formula xs)
-counted xs n e = ap (λ k. eqb k 0) e ∙ counted_as rule_formula xs
 
 pub over_unruled : (xs : List Rule) (n : ℕ) → not (none_yet (map rule_formula xs)) ≡ false → All (λ r. r.signals ≡ n) xs
 over_unruled [] n h = over_none [] n refl

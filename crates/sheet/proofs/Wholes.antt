@@ -70,9 +70,5 @@ said_is bs d e = ap (λ z. after_lines z (lines bs)) e
 pub read_exit : (bs : List ℕ) (r : Result Sheet SheetFault) (f : SheetFault) → IsErrAnd r (λ e. e ≡ f) → sheet_hold bs ≡ Some (answered f) → Read bs r
 read_exit bs r f h e = let p = err_from_is_err_and r h in subst (Read bs) (sym (p.1 ∙ ap Err p.2)) e
 
-pub none_left : {A : Type 0} (xs : List A) → length xs ≡ 0 → xs ≡ []
-none_left [] h = refl
-none_left (x ∷ xs) h = absurd (omega arith)
-
 pub over_none : (xs : List Rule) (n : ℕ) → length xs ≡ 0 → All (λ r. r.signals ≡ n) xs
 over_none xs n h = λ k d l. absurd (omega arith)

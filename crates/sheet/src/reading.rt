@@ -50,6 +50,7 @@ fn read_words(
 }
 
 /// Takes the rule that the words are.
+// As a method of `Reading` it would have to promise that the roster, the spare rule and the rules stay as they are.
 fn read_rule(
     rule: &mut Rule,
     reader: &mut Reader,
@@ -72,6 +73,8 @@ fn read_rule(
 
 impl Reading {
     ghost use Rattle.sheet.specs.Sheets.{Advances, Ready, draft_of, draft_so_far};
+
+    // `Ready` is no ghost field: on a fault the rule's memory is gone, and a post line promises nothing of the signals.
 
     /// Reads a rule line, by the text behind `rule` and a space.
     fn read_rule_line(&mut self, text: &[u8], line: usize) -> Result<(), SheetFault>
@@ -118,6 +121,7 @@ impl Reading {
         ensures draft { Advances (lines_holds (draft_so_far self.old) 1 (slice_split (λ c. c == 10) text.now)) (after_lines (draft_so_far self.old) (slice_split (λ c. c == 10) text.now)) self.new result }
         ensures ruled { OnOk result (vec_len self.new.rules ≡ 1) }
     {
+        // counted here and not by `enumerate`, for the number behind the last line
         let mut number = 1;
         for line in text.split(|b| *b == b'\n') {
             self.read_line(line, number)?;

@@ -11,7 +11,7 @@ returns-in-None c =
     let b = c.args.self.now in
     let items = vec_items b.rules in
     let begun : is_rule_line c.args.text.now ≡ false = search rules in
-    let some = ap not (counted items (vec_len b.rules) b.rules.ok.0) in
+    let some = ap not (counted rule_formula items (vec_len b.rules) b.rules.ok.0) in
     let drafted = as_post_line (entries b.roster) (entries c.read_post.new.self) (map rule_formula items) _ c.args.line c.args.text.now _ c.read_post.ensures (cc (some)) begun in (
       drafted,
       passes_unruled _ (entries b.roster) (entries c.read_post.new.self) _ c.args.line c.args.text.now _ c.read_post.ensures

@@ -51,7 +51,7 @@ pub returns-then-is_empty-clause-draft : goal.returns-then-is_empty-clause-draft
 returns-then-is_empty-clause-draft c =
     let b = c.loop-line.self in
     let end = ap (λ z. first_case (lines_holds (draft_so_far b) c.loop-line.number z)) (last (goal.at.returns-then-is_empty-clause-draft c).In-None) in
-    let counts = counted (vec_items b.rules) (vec_len b.rules) b.rules.ok.0 in
+    let counts = counted rule_formula (vec_items b.rules) (vec_len b.rules) b.rules.ok.0 in
     let missing = sym c.loop-line.invariant.2 ∙ end ∙ behind (entries b.roster) (map rule_formula (vec_items b.rules)) c.loop-line.number true (cc (counts)) in
     (cc (missing), tt)
 
@@ -61,7 +61,7 @@ returns-clause-draft c =
     let b = c.loop-line.self in
     let none = last (goal.at.returns-clause-draft c).In-None in
     let end = ap (λ z. first_case (lines_holds (draft_so_far b) c.loop-line.number z)) none in
-    let counts = counted (vec_items b.rules) (vec_len b.rules) b.rules.ok.0 in (
+    let counts = counted rule_formula (vec_items b.rules) (vec_len b.rules) b.rules.ok.0 in (
       (
         sym inv.2 ∙ end ∙ behind (entries b.roster) (map rule_formula (vec_items b.rules)) c.loop-line.number false (cc (counts)),
         sym (ap (after_lines (draft_so_far b)) none) ∙ inv.3,

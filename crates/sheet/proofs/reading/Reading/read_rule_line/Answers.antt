@@ -15,7 +15,7 @@ use Rattle.sheet.specs.Texts.{after_rule, rule_holds, words_holds}
 use Rattle.sheet.proofs.Lines.{drafted_exit}
 use Rattle.sheet.proofs.Mapped.{MapsErr, err_was, ok_was}
 use Rattle.sheet.proofs.RuleLines.{cut_none, cut_some, foreign_fits, first_fits, second_fits, words_decide, rule_joins, drafted_break}
-use Rattle.sheet.proofs.Spares.{one_read, over_one, some_read, spare_none, spare_some, spent, unread}
+use Rattle.sheet.proofs.Spares.{one_read, over_one, counted, spare_none, spare_some, spent, unread}
 use Rattle.sheet.proofs.reading.Reading.read_rule_line.Goals.{In_ok-map_err, In-Some}
 use Rattle.sheet.proofs.reading.Reading.read_rule_line.Goals as goal
 
@@ -67,7 +67,7 @@ returns-in_default c =
     let some : false ≡ eqb (length c.posts.result.now) 0 = search rules in
     let taken : b.spare ≡ None = search rules in
     let one = spare_none b.spare (vec_len b.rules) taken c.requires.one in
-    let read = some_read (vec_items b.rules) (omega (arith, b.rules.ok.0)) in
+    let read = sym (counted rule_formula (vec_items b.rules) (vec_len b.rules) b.rules.ok.0) ∙ ap (λ n. eqb n 0) one in
     (second_fits (vec_items b.roster.posts) (vec_items b.roster.signals) (map rule_formula (vec_items b.rules)) c.args.line c.args.text.now _ cut.0 c.signals.ensures.items cut.1 _ c.posts.ensures.items some read, tt)
 
 pub returns-in_err-read_rule : goal.returns-in_err-read_rule
