@@ -1,10 +1,5 @@
 //! The laws of the grammar: each function has one for its contract.
-ghost use Rattle.grammar.specs.Laws.{OneFormula};
-ghost use Rattle.grammar.specs.Laws.{RawMeans};
-ghost use Rattle.grammar.specs.Laws.{ShortIsShortened};
-ghost use Rattle.grammar.specs.Laws.{MisplacedMeans};
-ghost use Rattle.grammar.specs.Laws.{KnownMeans};
-ghost use Rattle.grammar.specs.Laws.{WorkedReadings};
+ghost use Rattle.grammar.specs.Laws.{OneFormula, RawMeans, ShortIsShortened, MisplacedMeans, KnownMeans, WorkedReadings};
 
 /// Words have at most one formula.
 pub fn one_formula()
