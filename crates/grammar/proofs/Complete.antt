@@ -55,7 +55,7 @@ closes_more n (Stray ∷ r) h = h
 pub reduce_none : (o : Connective) (f : Formula) (s : List Held) → Fits (level o) s → reduce raw (suc (level o)) f s ≡ (f, s)
 reduce_none o f [] h = refl
 reduce_none o f (opened ∷ s) h = refl
-reduce_none o f (signed p ∷ s) h = let k = level_small o in let z : ⊥ = omega arith in elim z [ ]
+reduce_none o f (signed p ∷ s) h = let k = level_small o in absurd (omega arith)
 reduce_none o f (halfway p g ∷ s) h = cond-false (leb (suc (level o)) (level p)) (reduce raw (suc (level o)) (connect p g f) s) (f, halfway p g ∷ s) (lt-leb (suc (level o)) (level p) (omega arith))
 
 -- Where the level ends, what waits there takes its operand.

@@ -52,7 +52,7 @@ rule_goes_on vs h =
 
 -- and where it makes nothing, nothing is read.
 none_reads : (ws : List Word) (f : Formula) → meant raw (want []) ws ≡ None → Reads 0 ws f → ⊥
-none_reads ws f e d = let k = complete_all d in let z : ◌≡◌ {A = ℕ} 0 1 = cc in omega arith
+none_reads ws f e d = let k = complete_all d in cc
 
 fault_at_word : (ws : List Word) (k : ℕ) → k < length ws → (run raw (want []) (take k ws) ≡ stuck → ⊥)
     → step raw (run raw (want []) (take k ws)) (get_or ws k Stray) ≡ stuck → Misplaced ws k
@@ -93,8 +93,8 @@ first_stuck st (w ∷ ws) h = go (first_stuck (step raw st w) ws) (step raw st w
     go : ((step raw st w ≡ stuck → ⊥) → ((i : ℕ) × StuckAt (step raw st w) ws i) ⊎ (run raw (step raw st w) ws ≡ stuck → ⊥))
         → (q : State) → step raw st w ≡ q → ((i : ℕ) × StuckAt st (w ∷ ws) i) ⊎ (run raw st (w ∷ ws) ≡ stuck → ⊥)
     go r stuck e = inl (0, (omega arith, h, e))
-    go r (want s) e = on (r (λ n. let z : ◌≡◌ {A = ℕ} 0 1 = cc in omega arith))
-    go r (have s f) e = on (r (λ n. let z : ◌≡◌ {A = ℕ} 0 1 = cc in omega arith))
+    go r (want s) e = on (r (λ n. cc))
+    go r (have s f) e = on (r (λ n. cc))
 
 -- Words are a rule, or one of them is the first at fault; the scan says which.
 abbrev Judged : List Word → Type 0
@@ -103,7 +103,7 @@ Judged ws =
 
 judged : (ws : List Word) → Judged ws
 judged ws =
-    elim (first_stuck (want []) ws (λ e. let z : ◌≡◌ {A = ℕ} 0 1 = cc in omega arith)) [
+    elim (first_stuck (want []) ws (λ e. cc)) [
       | inl k ↦ inr (at_word k.0 k.1)
       | inr h ↦ at_end h (ending raw (run raw (want []) ws)) refl
     ]
@@ -150,9 +150,9 @@ misplaced_means ws = go (judged ws)
         × ((k : ℕ) → (misplaced ws ≡ Some k → Misplaced ws k) × (Misplaced ws k → misplaced ws ≡ Some k))
     go (inl y) = (
       (λ e. (y.0, y.2), λ r. y.1),
-      λ k. (λ e. let z : ◌≡◌ {A = ℕ} 0 1 = (let i = y.1 in cc) in absurd (omega arith), λ m. absurd (rule_faultless ws k y.0 m y.2)),
+      λ k. (λ e. absurd (let i = y.1 in cc), λ m. absurd (rule_faultless ws k y.0 m y.2)),
     )
     go (inr y) = (
-      (λ e. let z : ◌≡◌ {A = ℕ} 0 1 = (let i = y.1 in cc) in absurd (omega arith), λ r. absurd (rule_faultless ws y.0 r.0 y.2 r.1)),
+      (λ e. absurd (let i = y.1 in cc), λ r. absurd (rule_faultless ws y.0 r.0 y.2 r.1)),
       λ k. (λ e. let i : y.0 ≡ k = (let j = y.1 in cc) in subst (Misplaced ws) i y.2, λ m. y.1 ∙ ap Some (first_is_one ws y.0 k y.2 m)),
     )

@@ -1,6 +1,7 @@
 -- A rule names no signal but those of its words, and no reading is open in it.
-use Rattle.std.proofs.Common.{◌≡◌, ℕ, suc, ◌<◌, Bool, true, false, cond, ◌⊎◌, List, [], ◌∷◌, ◌++◌, Some, None, refl, inl, inr, arith}
-use Rattle.std.proofs.lemmas.Bool.{leb-false}
+use Rattle.std.proofs.Common.{◌≡◌, ℕ, suc, ◌+◌, ◌<◌, ◌≤◌, Bool, true, false, cond, not, ltb, ◌⊎◌, List, [], ◌∷◌, ◌++◌, length, Some, None, refl, inl, inr, arith}
+use Rattle.std.proofs.lemmas.Bool.{leb-false, ltb-false}
+use Rattle.std.specs.List.{position_or_len}
 use Rattle.temporal.specs.Formula.{Formula}
 use Rattle.temporal.specs.Formula.Formula.{signal}
 use Rattle.temporal.specs.Parts.{Part}
@@ -16,7 +17,7 @@ use Rattle.words.specs.declared.word.Connective.TheVariants.{Implies, Or, And, U
 use Rattle.words.specs.declared.word.Word.{Word}
 use Rattle.words.specs.declared.word.Word.TheVariants.{Infix, Close}
 use Rattle.grammar.specs.Grammar.{connect, Reads, alone, within, sign, between, tighter}
-use Rattle.grammar.specs.Scan.{foreign, unknown_from}
+use Rattle.grammar.specs.Scan.{foreign, unknown}
 use Rattle.grammar.specs.Laws.{KnownMeans}
 
 -- No word is a name that is none of n signals.
@@ -24,14 +25,22 @@ abbrev Known : ℕ → List Word → Type 0
 Known n [] = Unit {0}
 Known n (w ∷ ws) = (foreign n w ≡ false) × Known n ws
 
-none_unknown : (n k : ℕ) (ws : List Word) → unknown_from n k ws ≡ None → Known n ws
-none_unknown n k [] e = tt
-none_unknown n k (w ∷ ws) e = go (none_unknown n (suc k) ws) (foreign n w) refl e
+all_known : (n : ℕ) (ws : List Word) → length ws ≤ position_or_len (foreign n) ws → Known n ws
+all_known n [] l = tt
+all_known n (w ∷ ws) l = go (foreign n w) refl l (all_known n ws)
   where
-    go : (unknown_from n (suc k) ws ≡ None → Known n ws) → (b : Bool) → foreign n w ≡ b → cond b (Some k) (unknown_from n (suc k) ws) ≡ None
-        → (foreign n w ≡ false) × Known n ws
-    go r true t e = let z : ◌≡◌ {A = ℕ} 0 1 = cc in absurd (omega arith)
-    go r false t e = (t, r e)
+    go : (b : Bool) → foreign n w ≡ b → suc (length ws) ≤ cond (not b) (1 + position_or_len (foreign n) ws) 0
+        → (length ws ≤ position_or_len (foreign n) ws → Known n ws) → (foreign n w ≡ false) × Known n ws
+    go true t m r = absurd (omega arith)
+    go false t m r = (t, r (omega arith))
+
+beyond : (k n : ℕ) (b : Bool) → ltb k n ≡ b → cond b (Some k) None ≡ None → n ≤ k
+beyond k n true t e = absurd (cc)
+beyond k n false t e = ltb-false k n t
+
+none_unknown : (n : ℕ) (ws : List Word) → unknown n ws ≡ None → Known n ws
+none_unknown n ws e =
+    all_known n ws (beyond (position_or_len (foreign n) ws) (length ws) (ltb (position_or_len (foreign n) ws) (length ws)) refl e)
 
 known_front : (n : ℕ) (ws vs : List Word) → Known n (ws ++ vs) → Known n ws
 known_front n [] vs h = tt
@@ -43,24 +52,24 @@ known_back n (w ∷ ws) vs h = known_back n ws vs h.1
 
 -- The signals and the open readings of what a sign makes are those of its operands.
 one_signal : (p : ℕ) (u : Unary) (f : Formula) → Part (signal p) (one u f) → Part (signal p) f
-one_signal p Not f (inl e) = let z : ◌≡◌ {A = ℕ} 0 1 = cc in absurd (omega arith)
+one_signal p Not f (inl e) = absurd (cc)
 one_signal p Not f (inr k) = k
-one_signal p Next f (inl e) = let z : ◌≡◌ {A = ℕ} 0 1 = cc in absurd (omega arith)
+one_signal p Next f (inl e) = absurd (cc)
 one_signal p Next f (inr k) = k
-one_signal p Finally f (inl e) = let z : ◌≡◌ {A = ℕ} 0 1 = cc in absurd (omega arith)
+one_signal p Finally f (inl e) = absurd (cc)
 one_signal p Finally f (inr k) = k
-one_signal p Globally f (inl e) = let z : ◌≡◌ {A = ℕ} 0 1 = cc in absurd (omega arith)
+one_signal p Globally f (inl e) = absurd (cc)
 one_signal p Globally f (inr k) = k
 
 connect_signal : (p : ℕ) (o : Connective) (f g : Formula) → Part (signal p) (connect o f g) → Part (signal p) f ⊎ Part (signal p) g
-connect_signal p Implies f g (inl e) = let z : ◌≡◌ {A = ℕ} 0 1 = cc in absurd (omega arith)
+connect_signal p Implies f g (inl e) = absurd (cc)
 connect_signal p Implies f g (inr (inl k)) = inl (one_signal p Not f k)
 connect_signal p Implies f g (inr (inr k)) = inr k
-connect_signal p Or f g (inl e) = let z : ◌≡◌ {A = ℕ} 0 1 = cc in absurd (omega arith)
+connect_signal p Or f g (inl e) = absurd (cc)
 connect_signal p Or f g (inr k) = k
-connect_signal p And f g (inl e) = let z : ◌≡◌ {A = ℕ} 0 1 = cc in absurd (omega arith)
+connect_signal p And f g (inl e) = absurd (cc)
 connect_signal p And f g (inr k) = k
-connect_signal p Until f g (inl e) = let z : ◌≡◌ {A = ℕ} 0 1 = cc in absurd (omega arith)
+connect_signal p Until f g (inl e) = absurd (cc)
 connect_signal p Until f g (inr k) = k
 
 one_closed : (u : Unary) (f : Formula) → Closed f → Closed (one u f)
@@ -80,7 +89,7 @@ connect_closed And f g c d = either_closed f g c d
 connect_closed Until f g c d = either_closed f g c d
 
 names : {m : ℕ} {ws : List Word} {f : Formula} → Reads m ws f → (n : ℕ) → Known n ws → (p : ℕ) → Part (signal p) f → p < n
-names (alone (Const b)) n h p k = let z : ◌≡◌ {A = ℕ} 0 1 = cc in absurd (omega arith)
+names (alone (Const b)) n h p k = absurd (cc)
 names (alone (Signal q)) n h p k = let e : p ≡ q = cc in let l = leb-false n q h.0 in omega arith
 names (within {ws = ws} d) n h p k = names d n (known_front n ws (Close ∷ []) h.1) p k
 names (sign u {f = f} d) n h p k = names d n h.1 p (one_signal p u f k)
@@ -102,5 +111,5 @@ closed (tighter d) = closed d
 pub known_means : KnownMeans
 known_means n ws f u d = (
   λ p e k. let l = (shortened_is_owed f (closed d)).before p e k in omega arith,
-  λ p k. names d n (none_unknown n 0 ws u) p (shorten_bare p f k),
+  λ p k. names d n (none_unknown n ws u) p (shorten_bare p f k),
 )

@@ -48,7 +48,7 @@ module _ (S : Signs) where
 
   close_stops : (f : Formula) (s : List Held) (k : ℕ) (ws : List Word) → closed (reduce S 0 f s) ≡ stuck → scan false (opens s) k (Close ∷ ws) ≡ Some k
   close_stops f [] k ws h = refl
-  close_stops f (opened ∷ s) k ws h = let z : ◌≡◌ {A = ℕ} 0 1 = cc in absurd (omega arith)
+  close_stops f (opened ∷ s) k ws h = absurd (cc)
   close_stops f (signed u ∷ s) k ws h = close_stops (S.unary u f) s k ws h
   close_stops f (halfway o g ∷ s) k ws h =
       close_stops (S.binary o g f) s k ws (sym (ap closed (reduce_left 0 o g f s (omega arith))) ∙ h)
@@ -89,15 +89,15 @@ module _ (S : Signs) where
   -- and stops where it is stuck.
   word_stops : (st : State) (w : Word) (k : ℕ) (ws : List Word) → (st ≡ stuck → ⊥) → step S st w ≡ stuck → scanned st k (w ∷ ws) ≡ Some k
   word_stops stuck w k ws n h = absurd (n refl)
-  word_stops (want s) (Atom a) k ws n h = let z : ◌≡◌ {A = ℕ} 0 1 = cc in absurd (omega arith)
-  word_stops (want s) (Prefix u) k ws n h = let z : ◌≡◌ {A = ℕ} 0 1 = cc in absurd (omega arith)
+  word_stops (want s) (Atom a) k ws n h = absurd (cc)
+  word_stops (want s) (Prefix u) k ws n h = absurd (cc)
   word_stops (want s) (Infix o) k ws n h = refl
-  word_stops (want s) Open k ws n h = let z : ◌≡◌ {A = ℕ} 0 1 = cc in absurd (omega arith)
+  word_stops (want s) Open k ws n h = absurd (cc)
   word_stops (want s) Close k ws n h = refl
   word_stops (want s) Stray k ws n h = refl
   word_stops (have s f) (Atom a) k ws n h = refl
   word_stops (have s f) (Prefix u) k ws n h = refl
-  word_stops (have s f) (Infix o) k ws n h = let z : ◌≡◌ {A = ℕ} 0 1 = cc in absurd (omega arith)
+  word_stops (have s f) (Infix o) k ws n h = absurd (cc)
   word_stops (have s f) Open k ws n h = refl
   word_stops (have s f) Close k ws n h = close_stops f s k ws h
   word_stops (have s f) Stray k ws n h = refl

@@ -1,5 +1,5 @@
 -- Shortening carries a run of the machine into the run that shortens as it builds.
-use Rattle.std.proofs.Common.{◌≡◌, ℕ, suc, true, false, cond, leb, List, [], ◌∷◌, map, Some, None, Option, sym, refl, ap, ◌∙◌, arith}
+use Rattle.std.proofs.Common.{◌≡◌, ℕ, suc, true, false, cond, leb, List, [], ◌∷◌, map, Some, None, Option, sym, refl, ap, ◌∙◌}
 use Rattle.temporal.specs.Formula.{Formula}
 use Rattle.temporal.specs.Shorten.{shorten}
 use Rattle.parts.specs.declared.part.Unary.{Unary}
@@ -104,5 +104,5 @@ pub short_reads : (ws : List Word) (t : Formula) → short_of ws ≡ Some t → 
 short_reads ws t e = go (raw_of ws) refl (sym (short_is_shortened ws) ∙ e)
   where
     go : (o : Option Formula) → raw_of ws ≡ o → shorten_some o ≡ Some t → (f : Formula) × Reads 0 ws f × (shorten f ≡ t)
-    go None q h = let z : ◌≡◌ {A = ℕ} 0 1 = cc in absurd (omega arith)
+    go None q h = absurd (cc)
     go (Some f) q h = let i : shorten f ≡ t = cc in (f, sound_all ws f q, i)

@@ -117,11 +117,11 @@ sound_ended f t [] p h e =
     let i : f ≡ t = cc in
     let k : h.1 ≡ p = sym (h.2 ∙ ap (λ z. z ++ h.1) h.4) in
     subst (λ z. Reads 0 z t) k (subst (λ z. Reads 0 h.1 z) i h.3)
-sound_ended f t (x ∷ s) p h e = let z : ◌≡◌ {A = ℕ} 0 1 = cc in let n : ⊥ = omega arith in elim n [ ]
+sound_ended f t (x ∷ s) p h e = absurd (cc)
 
 sound_ending : (st : State) (t : Formula) (p : List Word) → Sound st p → ending raw st ≡ Some t → Reads 0 p t
-sound_ending (want s) t p h e = let z : ◌≡◌ {A = ℕ} 0 1 = cc in let n : ⊥ = omega arith in elim n [ ]
-sound_ending stuck t p h e = let z : ◌≡◌ {A = ℕ} 0 1 = cc in let n : ⊥ = omega arith in elim n [ ]
+sound_ending (want s) t p h e = absurd (cc)
+sound_ending stuck t p h e = absurd (cc)
 sound_ending (have s f) t p h e =
     let r = reduced 0 f s 5 h.0 h.1 (omega arith) (omega arith) h.3 (fits_tight 5 s (omega arith)) h.4 in
     let b = r.0 in

@@ -1,5 +1,5 @@
 -- The first word at fault, and the first name that is no signal, by one scan over the words.
-use Rattle.std.specs.Prelude.{ℕ, zero, suc, Bool, true, false, cond, List, [], ◌∷◌, Some, None, Option, nat_le}
+use Rattle.std.specs.Prelude.{ℕ, zero, suc, Bool, true, false, List, [], ◌∷◌, Some, None, Option, nat_le, position}
 use Rattle.words.specs.declared.word.Leaf.TheVariants.{Const, Signal}
 use Rattle.words.specs.declared.word.Word.{Word}
 use Rattle.words.specs.declared.word.Word.TheVariants.{Atom, Prefix, Infix, Open, Close, Stray}
@@ -38,11 +38,6 @@ foreign n Open = false
 foreign n Close = false
 foreign n Stray = false
 
--- The place of the first such word, where k words were passed.
-abbrev pub unknown_from : ℕ → ℕ → List Word → Option ℕ
-unknown_from n k [] = None
-unknown_from n k (w ∷ ws) = cond (foreign n w) (Some k) (unknown_from n (suc k) ws)
-
 -- The place of the first such word, from 0.
 abbrev pub unknown : ℕ → List Word → Option ℕ
-unknown n ws = unknown_from n 0 ws
+unknown n ws = position (foreign n) ws

@@ -35,11 +35,6 @@ abbrev pub past : Option ℕ → ℕ
 past None = 0
 past (Some i) = i + 1
 
--- Every place is one of the table's.
-pub record Fit (ps : List Part) (fs : List Frame) (o : Option ℕ) : Type 0 where
-  pub frames : reach fs ≤ length ps
-  pub held : past o ≤ length ps
-
 -- How much was made and waits: each word adds at most 2.
 abbrev pub load : List Part → List Frame → ℕ
 load ps fs = length ps + 2 * length fs
@@ -53,18 +48,14 @@ reducing b ps fs i = reduce short b (formula ps i) (stack (formula ps) fs)
 
 -- What waited in fs at level b or tighter has taken its operand, at first x: what is left waits in gs for y.
 pub record Reduced (b : ℕ) (ps : List Part) (fs : List Frame) (x : ℕ) (qs : List Part) (gs : List Frame) (y : ℕ) : Type 0 where
-  pub fit : Fit qs gs (Some y)
+  pub inside : y < length qs
   pub small : load qs gs ≤ load ps fs
   pub pair : holding qs gs y ≡ reducing b ps fs x
 
--- The places fit, and at most 2 was added.
-pub record Grew (ps : List Part) (fs : List Frame) (qs : List Part) (gs : List Frame) (o : Option ℕ) : Type 0 where
-  pub fit : Fit qs gs o
-  pub small : load qs gs ≤ load ps fs + 2
-
--- Whether the word could stand after the state of h, ps and fs: then that of k, qs and gs is the next one.
+-- Whether the word could stand after the state of h, ps and fs: then that of k, qs and gs is the next one, and at most 2 was
+-- added.
 abbrev pub Took : Word → Option ℕ → List Part → List Frame → Option ℕ → List Part → List Frame → Bool → Type 0
-Took w h ps fs k qs gs true = Grew ps fs qs gs k × (state_of k qs gs ≡ step short (state_of h ps fs) w)
+Took w h ps fs k qs gs true = (load qs gs ≤ load ps fs + 2) × (state_of k qs gs ≡ step short (state_of h ps fs) w)
 Took w h ps fs k qs gs false = step short (state_of h ps fs) w ≡ stuck
 
 -- The rule may end after the state of h, ps and fs: then its formula stands at a place of qs.

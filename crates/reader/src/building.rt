@@ -9,6 +9,7 @@ use parts::{Binary, Junction, Table, Unary};
 use words::{Connective, Leaf};
 
 /// How tight a word between two formulas binds.
+// Written out: an order derived on `Connective` would hide the grammar's levels in the order of its variants.
 pub(crate) fn level(by: Connective) -> u8
     ensures { result ≡ level_of by }
 {

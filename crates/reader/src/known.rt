@@ -8,23 +8,12 @@ use words::{Leaf, Word};
 fn is_foreign(word: Word, signals: u8) -> bool
     ensures { result ≡ foreign signals word }
 {
-    match word {
-        Word::Atom(leaf) => match leaf {
-            Leaf::Signal(p) => signals <= p,
-            Leaf::Const(_) => false,
-        },
-        _ => false,
-    }
+    matches!(word, Word::Atom(Leaf::Signal(p)) if signals <= p)
 }
 
 /// The place, from 0, of the first name that is no signal.
 pub fn unknown(words: &[Word], signals: u8) -> Option<usize>
     ensures { result ≡ unknown_of signals words.now }
 {
-    for (i, word) in words.iter().enumerate() {
-        if is_foreign(*word, signals) {
-            return Some(i);
-        }
-    }
-    None
+    words.iter().position(|word| is_foreign(*word, signals))
 }

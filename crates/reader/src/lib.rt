@@ -6,7 +6,6 @@ mod frame;
 mod known;
 mod misplaced;
 mod reader;
-mod readers;
 
 pub use known::unknown;
 pub use misplaced::Misplaced;

@@ -1,8 +1,10 @@
 pub mod Single
+pub mod Mapped
 pub mod Wording
 pub mod Ruling
+pub mod Wholes
+pub mod Spares
 pub mod RuleLines
 pub mod Lines
-pub mod Wholes
 pub mod Nothing
 pub mod Meanings

@@ -1,111 +1,74 @@
 -- One line after the other.
-use Rattle.std.proofs.Common.{◌≡◌, ℕ, suc, ◌+◌, ◌-◌, ◌<◌, ◌≤◌, Bool, true, false, cond, not, ◌||◌, eqb, leb, List, [], ◌∷◌, length, take, drop, is_some, IsErrAnd, IfOk, Some, None, Ok, Err, Result, sym, refl, ap, ◌∙◌, subst, ⊎_elim, arith}
-use Rattle.std.proofs.lemmas.List.{drop_all, drop-drop, length-drop, take_all}
+use Rattle.std.proofs.Common.{◌≡◌, ℕ, suc, ◌<◌, Bool, true, false, cond, not, ◌||◌, eqb, List, [], ◌∷◌, ◌++◌, length, drop, drop-cons, is_some, IsErrAnd, OnOk, Some, None, Ok, Err, Option, Result, sym, refl, ap, ◌∙◌, subst, arith}
+use Rattle.std.specs.Iterator.{Yields}
+use Rattle.std.specs.List.{onto_first, slice_split}
+use Rattle.std.proofs.lemmas.Iterator.{YieldsList}
+use Rattle.std.proofs.lemmas.Iterator.Consumers.{YieldsList-end, YieldsList-turn}
+use Rattle.std.proofs.lemmas.List.{drop_all, length_push}
 use Rattle.std.proofs.lemmas.Result.{err_from_is_err_and}
-use Rattle.std.proofs.lemmas.Bool.{cases_lt, true≢false}
+use Rattle.std.proofs.lemmas.Bool.{true≢false}
 use Rattle.temporal.specs.Formula.{Formula}
 use Rattle.holds.specs.Cases.{Hold, Cases, first_case, on_line}
-use Rattle.holds.proofs.Cases.{front_fits, past_fits}
-use Rattle.words.specs.Names.{every}
-use Rattle.words.specs.Texts.{front}
-use Rattle.roster.specs.Entries.{Entries, after_post, line_byte, names_holds, onto, post_line, post_holds}
+use Rattle.holds.proofs.Cases.{first_case_means, front_fits, past_fits}
+use Rattle.roster.specs.Entries.{Entries, after_post, post_holds, post_line}
 use Rattle.roster.specs.Faults.{answered}
 use Rattle.roster.specs.Rosters.{Judged}
 use Rattle.roster.specs.declared.fault.SheetFault.{SheetFault}
 use Rattle.sheet.specs.Sheets.{Drafted}
 use Rattle.sheet.specs.Texts.{Draft, after_line, after_lines, after_rule, is_rule_line, line_holds, lines, lines_holds, none_yet, rule_holds}
 
-pub drafted_as : {A : Type 0} (ts us : Cases Hold) (want ask got : Draft) (r : Result A SheetFault) → first_case us ≡ first_case ts → ask ≡ want → Drafted us ask got r → Drafted ts want got r
-drafted_as ts us want ask got (Ok u) e q h = (sym e ∙ h.0, h.1 ∙ q)
-drafted_as ts us want ask got (Err f) e q h = sym e ∙ h
-
--- A rule line.
-pub as_rule_line : {A : Type 0} (d got : Draft) (l : ℕ) (bs rest : List ℕ) (r : Result A SheetFault) → true ≡ is_rule_line bs → rest ≡ drop 5 bs → Drafted (rule_holds d l rest) (after_rule d rest) got r → Drafted (line_holds d l bs) (after_line d bs) got r
-as_rule_line d got l bs rest r b e =
-    drafted_as (line_holds d l bs) (rule_holds d l rest) (after_line d bs) (after_rule d rest) got r
-    (ap (λ z. first_case (rule_holds d l z)) e
-    ∙ ap (λ t. first_case (cond t (rule_holds d l (drop 5 bs)) (post_holds d.entries (not (none_yet d.rules)) l bs))) b)
-    (ap (after_rule d) e
-    ∙ ap (λ t. cond t (after_rule d (drop 5 bs)) (record { entries = after_post d.entries bs; rules = d.rules })) b)
-
--- Any other.
-ruled_is : (ruled : Bool) (f : Formula) → not (none_yet (cond ruled (f ∷ []) [])) ≡ ruled
-ruled_is true f = refl
-ruled_is false f = refl
-
-pub as_post_line : {A : Type 0} (e got : Entries) (ruled : Bool) (f : Formula) (l : ℕ) (bs : List ℕ) (r : Result A SheetFault) → false ≡ is_rule_line bs → Judged (post_holds e ruled l bs) (after_post e bs) got r → Drafted (line_holds (record { entries = e; rules = cond ruled (f ∷ []) [] }) l bs) (after_line (record { entries = e; rules = cond ruled (f ∷ []) [] }) bs) (record { entries = got; rules = cond ruled (f ∷ []) [] }) r
-as_post_line e got ruled f l bs r b = go r
+-- A line that is no rule line, where fs are the rules so far.
+pub as_post_line : {A : Type 0} (e got : Entries) (fs : List Formula) (ruled : Bool) (l : ℕ) (bs : List ℕ) (r : Result A SheetFault) → Judged (post_holds e ruled l bs) (after_post e bs) got r → ruled ≡ not (none_yet fs) → is_rule_line bs ≡ false → Drafted (line_holds (record { entries = e; rules = fs }) l bs) (after_line (record { entries = e; rules = fs }) bs) (record { entries = got; rules = fs }) r
+as_post_line e got fs ruled l bs r j k b = go r j
   where
     d : Draft
-    d = record { entries = e; rules = cond ruled (f ∷ []) [] }
+    d = record { entries = e; rules = fs }
 
     tests : first_case (line_holds d l bs) ≡ first_case (post_holds e ruled l bs)
     tests =
-        ap (λ t. first_case (cond t (rule_holds d l (drop 5 bs)) (post_holds e (not (none_yet d.rules)) l bs))) (sym b)
-        ∙ ap (λ t. first_case (post_holds e t l bs)) (ruled_is ruled f)
+        ap (λ t. first_case (cond t (rule_holds d l (drop 5 bs)) (post_holds e (not (none_yet fs)) l bs))) b
+        ∙ ap (λ t. first_case (post_holds e t l bs)) (sym k)
 
-    after : after_line d bs ≡ record { entries = after_post e bs; rules = cond ruled (f ∷ []) [] }
-    after =
-        ap (λ t. cond t (after_rule d (drop 5 bs)) (record { entries = after_post e bs; rules = cond ruled (f ∷ []) [] })) (sym b)
+    after : after_line d bs ≡ record { entries = after_post e bs; rules = fs }
+    after = ap (λ t. cond t (after_rule d (drop 5 bs)) (record { entries = after_post e bs; rules = fs })) b
 
-    go : {A : Type 0} (s : Result A SheetFault) → Judged (post_holds e ruled l bs) (after_post e bs) got s → Drafted (line_holds d l bs) (after_line d bs) (record { entries = got; rules = cond ruled (f ∷ []) [] }) s
-    go (Ok u) h = (tests ∙ h.0, ap (λ z. record { entries = z; rules = cond ruled (f ∷ []) [] }) h.1 ∙ sym after)
+    go : {A : Type 0} (s : Result A SheetFault) → Judged (post_holds e ruled l bs) (after_post e bs) got s → Drafted (line_holds d l bs) (after_line d bs) (record { entries = got; rules = fs }) s
+    go (Ok u) h = (tests ∙ h.0, ap (λ z. record { entries = z; rules = fs }) h.1 ∙ sym after)
     go (Err g) h = tests ∙ h
 
 -- Behind the rule line no other line passes.
+pub or_off : (a b : Bool) → (a || b) ≡ false → b ≡ false
+or_off true b h = absurd (true≢false h)
+or_off false b h = h
+
 pub unruled : (e : Entries) (ruled : Bool) (l : ℕ) (bs : List ℕ) → first_case (post_holds e ruled l bs) ≡ None → ruled ≡ false
-unruled e ruled l bs = go (every line_byte bs) (is_some (post_line bs)) ruled
-  where
-    go : (a b c : Bool) → first_case ((on_line 2 l, not a) ∷ (on_line 3 l, not b || c) ∷ (on_line 4 l, leb 8 (length e.posts)) ∷ names_holds e l (post_line bs)) ≡ None → c ≡ false
-    go false b c h = let z : ◌≡◌ {A = ℕ} 0 1 = cc in absurd (omega arith)
-    go true false c h = let z : ◌≡◌ {A = ℕ} 0 1 = cc in absurd (omega arith)
-    go true true true h = let z : ◌≡◌ {A = ℕ} 0 1 = cc in absurd (omega arith)
-    go true true false h = refl
+unruled e ruled l bs h =
+    or_off (not (is_some (post_line bs))) ruled ((first_case_means Hold (post_holds e ruled l bs)).0 h).1.0
 
-pub made_post : {A : Type 0} (e got : Entries) (ruled : Bool) (l : ℕ) (bs : List ℕ) (r : Result A SheetFault) (P : Type 0) → Judged (post_holds e ruled l bs) (after_post e bs) got r → IfOk r (λ _. ruled ≡ true → P)
-made_post e got ruled l bs (Ok u) P h =
-    λ t. let f = unruled e ruled l bs h.0 in let z : ◌≡◌ {A = Bool} true false = cc in absurd (true≢false z)
-made_post e got ruled l bs (Err f) P h = tt
+pub passes_unruled : {A : Type 0} (P : Type 0) (e got : Entries) (ruled : Bool) (l : ℕ) (bs : List ℕ) (r : Result A SheetFault) → Judged (post_holds e ruled l bs) (after_post e bs) got r → (ruled ≡ false → P) → OnOk r P
+passes_unruled P e got ruled l bs (Ok u) h k = k (unruled e ruled l bs h.0)
+passes_unruled P e got ruled l bs (Err f) h k = tt
 
--- The next line of a text.
-abbrev other : ℕ → Bool
-other c = not (eqb c 10)
+-- The lines of a text that ends with a line end are the parts before it.
+joins : (c : ℕ) (ps : List (List ℕ)) (b : Bool) (qs : List (List ℕ)) → qs ≡ ps → cond b ([] ∷ qs) (onto_first c qs) ≡ cond b ([] ∷ ps) (onto_first c ps)
+joins c ps b qs e = ap (λ z. cond b ([] ∷ z) (onto_first c z)) e
 
-whole_line : (bs : List ℕ) → 0 < length bs → length bs ≤ front other bs → lines bs ≡ bs ∷ []
-whole_line [] l h = absurd (omega arith)
-whole_line (c ∷ []) l h = go (eqb c 10) h
-  where
-    go : (t : Bool) → 1 ≤ cond (not t) (suc 0) 0 → cond t ([] ∷ []) (onto c []) ≡ (c ∷ []) ∷ []
-    go true m = absurd (omega arith)
-    go false m = refl
-whole_line (c ∷ (b ∷ bs)) l h = go (eqb c 10) h (whole_line (b ∷ bs) (omega arith))
-  where
-    go : (t : Bool) → suc (length (b ∷ bs)) ≤ cond (not t) (suc (front other (b ∷ bs))) 0 → (length (b ∷ bs) ≤ front other (b ∷ bs) → lines (b ∷ bs) ≡ (b ∷ bs) ∷ []) → cond t ([] ∷ lines (b ∷ bs)) (onto c (lines (b ∷ bs))) ≡ (c ∷ (b ∷ bs)) ∷ []
-    go true m k = absurd (omega arith)
-    go false m k = ap (onto c) (k (omega arith))
+pub lines_split : (bs : List ℕ) → lines (bs ++ 10 ∷ []) ≡ slice_split (λ c. eqb c 10) bs
+lines_split [] = refl
+lines_split (c ∷ bs) = joins c (slice_split (λ b. eqb b 10) bs) (eqb c 10) (lines (bs ++ 10 ∷ [])) (lines_split bs)
 
-first_line : (bs : List ℕ) → front other bs < length bs → lines bs ≡ take (front other bs) bs ∷ lines (drop (suc (front other bs)) bs)
-first_line [] l = absurd (omega arith)
-first_line (c ∷ cs) l = go (eqb c 10) l (first_line cs)
-  where
-    go : (t : Bool) → cond (not t) (suc (front other cs)) 0 < suc (length cs) → (front other cs < length cs → lines cs ≡ take (front other cs) cs ∷ lines (drop (suc (front other cs)) cs)) → cond t ([] ∷ lines cs) (onto c (lines cs)) ≡ take (cond (not t) (suc (front other cs)) 0) (c ∷ cs) ∷ lines (drop (cond (not t) (suc (front other cs)) 0) cs)
-    go true m h = refl
-    go false m h = ap (onto c) (h (omega arith))
+-- The next of the parts that a chain yields; and all of them, where none is left.
+pub next_part : {S A B : Type 0} {steps : S → Option A → S → Type 0} {v : A → B} {s : S} {ls : List B} (xs : List A) (t : S) → Yields steps s xs t → (r : Option A) (u : S) (x : A) → r ≡ Some x → steps t r u → YieldsList steps v s ls
+    → (length xs < length ls) × (drop (length xs) ls ≡ v x ∷ drop (length (xs ++ x ∷ [])) ls)
+next_part {v = v} {ls = ls} xs t y r u x e k road =
+    let turn = YieldsList-turn road xs t y r u x e k in
+    let size : suc (length xs) ≡ length (xs ++ x ∷ []) = (let n = length_push xs x in omega arith) in
+    (turn.0, drop-cons ls (length xs) (v x) turn.0 ∙ ap (λ z. z ∷ drop (suc (length xs)) ls) (sym turn.1) ∙ ap (λ n. v x ∷ drop n ls) size)
 
--- The line that begins at i, where the next line end stands at e, or at the text's end.
-pub next_line : (bs : List ℕ) (i e : ℕ) → i < length bs → e ≡ i + front other (drop i bs) → lines (drop i bs) ≡ take (e - i) (drop i bs) ∷ lines (drop (e + 1) bs)
-next_line bs i e l h =
-    let n = length-drop i bs in
-    let size : front other (drop i bs) ≡ e - i = omega arith in
-    let past : i + suc (front other (drop i bs)) ≡ e + 1 = omega arith in
-    ⊎_elim
-    (λ m. first_line (drop i bs) m
-    ∙ ap (λ z. take (front other (drop i bs)) (drop i bs) ∷ lines z) (drop-drop (suc (front other (drop i bs))) i bs ∙ ap (λ k. drop k bs) past)
-    ∙ ap (λ k. take k (drop i bs) ∷ lines (drop (e + 1) bs)) size)
-    (λ m. whole_line (drop i bs) (omega arith) m
-    ∙ ap (λ z. z ∷ lines []) (sym (take_all (e - i) (drop i bs) (omega arith)))
-    ∙ ap (λ z. take (e - i) (drop i bs) ∷ lines z) (sym (drop_all (e + 1) bs (omega arith))))
-    (cases_lt (front other (drop i bs)) (length (drop i bs)))
+pub last_part : {S A B : Type 0} {steps : S → Option A → S → Type 0} {v : A → B} {s : S} {ls : List B} (xs : List A) (t : S) → Yields steps s xs t → (r : Option A) (u : S) → r ≡ None → steps t r u → YieldsList steps v s ls
+    → drop (length xs) ls ≡ []
+last_part {ls = ls} xs t y r u e k road =
+    let end = (YieldsList-end road xs t y r u e k).1 in drop_all (length xs) ls (omega arith)
 
 -- The exit of a `?`.
 pub drafted_exit : {A : Type 0} (ts : Cases Hold) (want got : Draft) (r : Result A SheetFault) (f : SheetFault) → IsErrAnd r (λ e. e ≡ f) → first_case ts ≡ Some (answered f) → Drafted ts want got r
@@ -128,19 +91,5 @@ module _ (d : Draft) (l : ℕ) (ls : List (List ℕ)) (x : List ℕ) (xs : List 
   line_joins c q = ap (λ z. after_lines z xs) q ∙ sym (ap (after_lines d) split)
 
 -- Behind the last line.
-module _ (e : Entries) (ruled : Bool) (f : Formula) (l : ℕ) (bs : List ℕ) (i : ℕ) (out : length bs ≤ i) where
-  abbrev draft : Draft
-  draft = record { entries = e; rules = cond ruled (f ∷ []) [] }
-
-  pub rule_missing : (b : Bool) → ruled ≡ b → first_case (lines_holds draft l (lines (drop i bs))) ≡ cond b None (Some (on_line 3 l))
-  rule_missing b h =
-      ap (λ z. first_case (lines_holds draft l (lines z))) (drop_all i bs out)
-      ∙ ap (λ t. first_case ((on_line 3 l, none_yet (cond t (f ∷ []) [])) ∷ [])) h
-      ∙ turned b
-    where
-      turned : (t : Bool) → first_case ((on_line 3 l, none_yet (cond t (f ∷ []) [])) ∷ []) ≡ cond t None (Some (on_line 3 l))
-      turned true = refl
-      turned false = refl
-
-  pub all_read : after_lines draft (lines (drop i bs)) ≡ draft
-  all_read = ap (λ z. after_lines draft (lines z)) (drop_all i bs out)
+pub behind : (e : Entries) (fs : List Formula) (l : ℕ) (b : Bool) → none_yet fs ≡ b → first_case (lines_holds (record { entries = e; rules = fs }) l []) ≡ cond b (Some (on_line 3 l)) None
+behind e fs l b h = ap (λ t. cond t (Some (on_line 3 l)) None) h

@@ -17,7 +17,7 @@ use Rattle.grammar.proofs.Readings.{raw_means}
 use Rattle.roster.specs.Entries.{PostLine, after_post, post_holds, post_line, signal_names}
 use Rattle.roster.proofs.Writing.{Says, says_more}
 use Rattle.sheet.specs.Texts.{Draft, Meant, after_line, after_lines, after_rule, is_rule_line, line_holds, lines_holds, none_yet, rule_formula, rule_holds, rule_words}
-use Rattle.sheet.proofs.Lines.{unruled}
+use Rattle.sheet.proofs.Lines.{or_off, unruled}
 
 -- What a rule line that passed means.
 pub record Passed (d : Draft) (text : List ℕ) : Type 0 where
@@ -56,10 +56,6 @@ passed d l text e =
       },
       or_off (none_yet d.entries.posts) (not (none_yet d.rules)) off.1.0,
     )
-  where
-    or_off : (a b : Bool) → (a || b) ≡ false → b ≡ false
-    or_off true b h = absurd (true≢false h)
-    or_off false b h = h
 
 -- Behind a rule nothing passes.
 ends : (d : Draft) (l : ℕ) (f : Formula) (xs : List (List ℕ)) → d.rules ≡ f ∷ [] → first_case (lines_holds d l xs) ≡ None → xs ≡ []

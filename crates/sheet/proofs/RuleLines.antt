@@ -1,12 +1,13 @@
 -- The rule line.
-use Rattle.std.proofs.Common.{◌≡◌, ℕ, Bool, true, false, cond, not, ◌||◌, eqb, List, [], ◌∷◌, ◌++◌, map, length, is_some, IsErrAnd, Some, None, Err, Option, Result, unwrap_or, sym, refl, ap, ◌∙◌, subst, arith}
+use Rattle.std.proofs.Common.{◌≡◌, ℕ, Bool, true, false, not, ◌||◌, eqb, List, [], ◌∷◌, ◌++◌, map, length, is_some, IsErrAnd, Some, None, Ok, Err, Option, Result, unwrap_or, sym, ap, ◌∙◌, subst}
 use Rattle.std.proofs.lemmas.Result.{err_from_is_err_and}
-use Rattle.std.proofs.lemmas.Bool.{eqb-true, eqb-false}
 use Rattle.temporal.specs.Formula.{Formula}
 use Rattle.holds.specs.Cases.{Hold, Cases, first_case, on_line}
+use Rattle.words.specs.Lists.{Cut, Holds}
 use Rattle.words.specs.Named.{name_bytes}
 use Rattle.words.specs.Texts.{words_of}
 use Rattle.words.specs.declared.word.Word.{Word}
+use Rattle.words.specs.declared.wordlist.WordList.{WordList}
 use Rattle.roster.specs.Entries.{signal_names}
 use Rattle.roster.specs.Faults.{answered}
 use Rattle.roster.specs.Rosters.{owned, post_name}
@@ -16,32 +17,30 @@ use Rattle.roster.specs.declared.fault.SheetFault.TheVariants.{Rule as OfRule}
 use Rattle.roster.specs.declared.roster.Post.{Post}
 use Rattle.roster.specs.declared.roster.Signal.{Signal}
 use Rattle.roster.proofs.Standing.{labels}
+use Rattle.sheet.proofs.Spares.{counted}
 use Rattle.sheet.specs.Sheets.{Drafted}
 use Rattle.sheet.specs.Texts.{Draft, after_rule, none_yet, rule_formula, rule_holds, words_holds}
-
-none_of : {A : Type 0} (xs : List A) → true ≡ eqb (length xs) 0 → none_yet xs ≡ true
-none_of [] h = refl
-none_of (x ∷ xs) h = let z = eqb-true (length (x ∷ xs)) 0 (sym h) in absurd (omega arith)
-
-some_of : {A : Type 0} (xs : List A) → false ≡ eqb (length xs) 0 → none_yet xs ≡ false
-some_of [] h = absurd (eqb-false 0 0 (sym h) refl)
-some_of (x ∷ xs) h = refl
-
-none_map : {A B : Type 0} (f : A → B) (xs : List A) → none_yet (map f xs) ≡ none_yet xs
-none_map f [] = refl
-none_map f (x ∷ xs) = refl
 
 -- A fault of the rule comes up unchanged.
 pub drafted_break : {A : Type 0} (ts : Cases Hold) (want got : Draft) (r : Result A SheetFault) (f : RuleFault) → IsErrAnd r (λ e. e ≡ OfRule f) → first_case ts ≡ Some (answered (OfRule f)) → Drafted ts want got r
 drafted_break ts want got r f h e =
     let p = err_from_is_err_and r h in subst (Drafted ts want got) (sym (p.1 ∙ ap Err p.2)) e
 
-module _ (ps : List Post) (ss : List Signal) (ruled : Bool) (f : Formula) (l : ℕ) (text : List ℕ) where
+-- The text has a byte that is in no word, or the list has its words.
+pub cut_none : {A E : Type 0} (o : Option (List Word)) (l : WordList) (r : Result A E) → Cut o l r → (e : E) × (r ≡ Err e) → o ≡ None
+cut_none o l (Ok u) c k = let q = k.1 in absurd (cc)
+cut_none o l (Err e) c k = c
+
+pub cut_some : {A E : Type 0} (o : Option (List Word)) (l : WordList) (r : Result A E) (x : A) → Cut o l r → r ≡ Ok x → (ws : List Word) × (o ≡ Some ws) × Holds ws l
+cut_some o l (Ok u) x c q = c
+cut_some o l (Err e) x c q = absurd (cc)
+
+module _ (ps : List Post) (ss : List Signal) (fs : List Formula) (l : ℕ) (text : List ℕ) where
   abbrev draft : Draft
   draft =
       record {
         entries = record { posts = map post_name ps; signals = map owned ss };
-        rules = cond ruled (f ∷ []) [];
+        rules = fs;
       }
 
   judge : Option (List Word) → Bool → Option Hold
@@ -50,6 +49,9 @@ module _ (ps : List Post) (ss : List Signal) (ruled : Bool) (f : Formula) (l : �
 
   names : (xs : List Signal) (o : Option (List Word)) → xs ≡ ss → words_of (map (λ s. name_bytes s.name) xs) text ≡ o → words_of (signal_names draft.entries) text ≡ o
   names xs o e h = ap (λ ns. words_of ns text) (labels ss ∙ ap (map (λ s. name_bytes s.name)) (sym e)) ∙ h
+
+  any_posts : (qs : List Post) → qs ≡ ps → none_yet (map post_name ps) ≡ eqb (length qs) 0
+  any_posts qs e = sym (counted post_name ps (length qs) (ap length e))
 
   pub foreign_fits : (xs : List Signal) → xs ≡ ss → words_of (map (λ s. name_bytes s.name) xs) text ≡ None → first_case (rule_holds draft l text) ≡ Some (on_line 2 l)
   unfolding judge
@@ -65,23 +67,23 @@ module _ (ps : List Post) (ss : List Signal) (ruled : Bool) (f : Formula) (l : �
     pub first_fits : (qs : List Post) → qs ≡ ps → true ≡ eqb (length qs) 0 → first_case (rule_holds draft l text) ≡ Some (on_line 3 l)
     unfolding judge
     first_fits qs e h =
-        judged true (ap (λ b. b || not (none_yet draft.rules)) (none_map post_name ps ∙ ap none_yet (sym e) ∙ none_of qs h))
+        judged true (ap (λ b. b || not (none_yet draft.rules)) (any_posts qs e ∙ sym h))
 
-    pub second_fits : (qs : List Post) → qs ≡ ps → false ≡ eqb (length qs) 0 → ruled ≡ true → first_case (rule_holds draft l text) ≡ Some (on_line 3 l)
+    pub second_fits : (qs : List Post) → qs ≡ ps → false ≡ eqb (length qs) 0 → none_yet fs ≡ false → first_case (rule_holds draft l text) ≡ Some (on_line 3 l)
     unfolding judge
     second_fits qs e h r =
-        judged true (ap (λ b. b || not (none_yet draft.rules)) (none_map post_name ps ∙ ap none_yet (sym e) ∙ some_of qs h)
-        ∙ ap (λ b. not (none_yet (cond b (f ∷ []) []))) r)
+        judged true (ap (λ b. b || not (none_yet draft.rules)) (any_posts qs e ∙ sym h)
+        ∙ ap not r)
 
-    module _ (qs : List Post) (posts : qs ≡ ps) (some : false ≡ eqb (length qs) 0) (unruled : ruled ≡ false) where
+    module _ (qs : List Post) (posts : qs ≡ ps) (some : false ≡ eqb (length qs) 0) (unruled : fs ≡ []) where
       pub words_decide : first_case (rule_holds draft l text) ≡ first_case (words_holds (length (map owned ss)) l ws)
       unfolding judge
       words_decide =
-          judged false (ap (λ b. b || not (none_yet draft.rules)) (none_map post_name ps ∙ ap none_yet (sym posts) ∙ some_of qs some)
-          ∙ ap (λ b. not (none_yet (cond b (f ∷ []) []))) unruled)
+          judged false (ap (λ b. b || not (none_yet draft.rules)) (any_posts qs posts ∙ sym some)
+          ∙ ap (λ z. not (none_yet z)) unruled)
 
       pub rule_joins : (g : Formula) → g ≡ rule_formula ws → ◌≡◌ {A = Draft} (record { entries = draft.entries; rules = g ∷ [] }) (after_rule draft text)
       rule_joins g h =
           ap (λ x. record { entries = draft.entries; rules = x ∷ [] }) h
           ∙ sym (ap (λ o. record { entries = draft.entries; rules = draft.rules ++ rule_formula (unwrap_or o []) ∷ [] }) (names xs (Some ws) same cut)
-          ∙ ap (λ b. record { entries = draft.entries; rules = cond b (f ∷ []) [] ++ rule_formula ws ∷ [] }) unruled)
+          ∙ ap (λ z. record { entries = draft.entries; rules = z ++ rule_formula ws ∷ [] }) unruled)

@@ -1,5 +1,6 @@
 -- The rule of some words.
-use Rattle.std.proofs.Common.{◌≡◌, ℕ, ◌≤◌, true, false, cond, ltb, List, length, IsErrAnd, Some, None, Err, vec_items, Result, sym, ap, ◌∙◌, subst, ⊎_elim, arith}
+use Rattle.std.proofs.Common.{◌≡◌, ℕ, ◌≤◌, true, false, cond, ltb, List, length, IsErrAnd, Some, None, Ok, Err, vec_items, Result, sym, ap, ◌∙◌, subst, ⊎_elim, arith}
+use Rattle.std.specs.Result.{MatchResult}
 use Rattle.std.proofs.lemmas.List.{take_all}
 use Rattle.std.proofs.lemmas.Result.{err_from_is_err_and}
 use Rattle.std.proofs.lemmas.Bool.{cases_Bool, le-ltb}
@@ -15,13 +16,14 @@ use Rattle.reader.specs.Answers.{RuleRead}
 use Rattle.roster.specs.Faults.{answered}
 use Rattle.roster.specs.declared.fault.WordFault.{WordFault}
 use Rattle.roster.specs.declared.fault.RuleFault.{RuleFault}
-use Rattle.roster.specs.declared.fault.RuleFault.TheVariants.{Words}
+use Rattle.roster.specs.declared.fault.RuleFault.TheVariants.{Large, Words}
 use Rattle.roster.specs.declared.fault.SheetFault.TheVariants.{Rule as OfRule}
+use Rattle.rule.specs.Ruled.{Ruled as Became}
 use Rattle.rule.specs.Rules.{misfit}
 use Rattle.rule.specs.declared.misfit.Misfit.{Misfit}
 use Rattle.rule.specs.declared.misfit.Misfit.TheVariants.{Parts}
 use Rattle.rule.specs.declared.rule.Rule.{Rule}
-use Rattle.sheet.specs.Sheets.{Ruled}
+use Rattle.sheet.specs.Rulings.{Ruled}
 use Rattle.sheet.specs.Texts.{place_holds, words_holds, rule_formula as formula_of}
 use Rattle.sheet.proofs.Wording.{formula_is, large_fits, misfit_is, place_fits}
 
@@ -49,19 +51,24 @@ module _ (ws : List Word) (list : WordList) (xs : List Word) (holds : Holds ws l
     fits : misfit n (formula ps top) ≡ cond (ltb 64 (length (parts (formula ps top)))) (Some Parts) None
     fits = misfit_is n l ws short ps top read_all known_all small
 
-    pub ruled_large : (e : Misfit) → misfit n (formula ps top) ≡ Some e → first_case (words_holds n l ws) ≡ Some (on_line 11 l)
+    ruled_large : (e : Misfit) → misfit n (formula ps top) ≡ Some e → first_case (words_holds n l ws) ≡ Some (on_line 11 l)
     ruled_large e h =
         ⊎_elim
         (λ q. large_fits n l ws short ps top read_all known_all small true q)
-        (λ q. let z : ◌≡◌ {A = ℕ} 0 1 = (let w = ap (λ b. cond b (Some Parts) None) q in cc (fits, w, h)) in absurd (omega arith))
+        (λ q. let w = ap (λ b. cond b (Some Parts) None) q in absurd (cc (fits, w, h)))
         (cases_Bool (ltb 64 (length (parts (formula ps top)))))
 
-    pub ruled_fits : misfit n (formula ps top) ≡ None → first_case (words_holds n l ws) ≡ None
+    ruled_fits : misfit n (formula ps top) ≡ None → first_case (words_holds n l ws) ≡ None
     ruled_fits h =
         ⊎_elim
-        (λ q. let z : ◌≡◌ {A = ℕ} 0 1 = (let w = ap (λ b. cond b (Some Parts) None) q in cc (fits, w, h)) in absurd (omega arith))
+        (λ q. let w = ap (λ b. cond b (Some Parts) None) q in absurd (cc (fits, w, h)))
         (λ q. large_fits n l ws short ps top read_all known_all small false q)
         (cases_Bool (ltb 64 (length (parts (formula ps top)))))
 
-    pub ruled_formula : formula ps top ≡ formula_of ws
+    ruled_formula : formula ps top ≡ formula_of ws
     ruled_formula = sym (formula_is n l ws short ps top read_all known_all small)
+
+    pub ruled_become : {A : Type 0} (old new : Rule) (r : Result A Misfit) (q : Result A RuleFault) → Became old new n (formula ps top) r → MatchResult r (λ x. q ≡ Ok x) (λ e. IsErrAnd q (λ f. f ≡ Large l)) → Ruled ws n l new q
+    ruled_become old new (Ok u) q h m = subst (Ruled ws n l new) (sym m) (ruled_fits h.0, h.1 ∙ ruled_formula, h.2)
+    ruled_become old new (Err e) q h m =
+        let p = err_from_is_err_and q m in subst (Ruled ws n l new) (sym (p.1 ∙ ap Err p.2)) (ruled_large e h.0)

@@ -1,46 +1,37 @@
 -- The words of a rule, and the rule that they are.
-use Rattle.std.proofs.Common.{◌≡◌, ℕ, suc, ◌+◌, ◌<◌, ◌≤◌, Bool, true, false, cond, ltb, List, [], ◌∷◌, ◌++◌, length, is_some, Some, None, Option, unwrap_or, sym, ap, ◌∙◌, arith}
+use Rattle.std.proofs.Common.{◌≡◌, ℕ, ◌+◌, ◌≤◌, Bool, true, false, cond, ltb, List, [], ◌∷◌, ◌++◌, length, is_some, Some, None, Ok, Err, Option, Result, unwrap_or, sym, ap, ◌∙◌}
 use Rattle.std.proofs.lemmas.Bool.{le-ltb}
 use Rattle.temporal.specs.Formula.{never}
 use Rattle.temporal.specs.Parts.{parts}
 use Rattle.temporal.specs.Shorten.{shorten}
-use Rattle.holds.specs.Cases.{Hold, Cases, first_case, on_line, on_word}
+use Rattle.holds.specs.Cases.{Hold, first_case, on_line, on_word}
 use Rattle.holds.proofs.Cases.{front_fits, past_fits}
 use Rattle.parts.specs.declared.part.Part.{Part}
 use Rattle.parts.specs.Places.{formula}
 use Rattle.words.specs.declared.word.Word.{Word}
-use Rattle.grammar.specs.Scan.{foreign, misplaced, unknown, unknown_from}
+use Rattle.grammar.specs.Scan.{misplaced, unknown}
 use Rattle.grammar.proofs.Faults.{misplaced_means}
 use Rattle.grammar.proofs.Names.{known_means}
 use Rattle.grammar.proofs.Readings.{raw_means}
-use Rattle.reader.specs.Answers.{RuleRead}
+use Rattle.reader.specs.Answers.{Answers, RuleRead}
+use Rattle.reader.specs.declared.misplaced.Misplaced.{Misplaced}
 use Rattle.rule.specs.Rules.{all_plain, misfit}
 use Rattle.rule.specs.declared.misfit.Misfit.TheVariants.{Signals, Parts, Leaf}
 use Rattle.rule.proofs.Ruling.{plain_means}
 use Rattle.sheet.specs.Texts.{place_holds, rule_formula, word_number, words_holds}
 
 -- A fault's place is within the words, or at their end.
-pub misplaced_within : (ws : List Word) (k : ℕ) → misplaced ws ≡ Some k → k ≤ length ws
+misplaced_within : (ws : List Word) (k : ℕ) → misplaced ws ≡ Some k → k ≤ length ws
 misplaced_within ws k e = (((misplaced_means ws).1 k).0 e).inside
 
-unknown_beyond : (n i : ℕ) (ws : List Word) (k : ℕ) → unknown_from n i ws ≡ Some k → k < i + length ws
-unknown_beyond n i [] k e = let z : ◌≡◌ {A = ℕ} 0 1 = cc in absurd (omega arith)
-unknown_beyond n i (w ∷ ws) k e = go (foreign n w) e (unknown_beyond n (suc i) ws k)
-  where
-    go : (b : Bool) → cond b (Some i) (unknown_from n (suc i) ws) ≡ Some k → (unknown_from n (suc i) ws ≡ Some k → k < suc i + length ws) → k < i + suc (length ws)
-    go true q h = let p : i ≡ k = cc in omega arith
-    go false q h = let p = h q in omega arith
-
-pub unknown_within : (n : ℕ) (ws : List Word) (k : ℕ) → unknown n ws ≡ Some k → k < length ws
-unknown_within n ws k e = let h = unknown_beyond n 0 ws k e in omega arith
+pub fault_within : (ws : List Word) (ps : List Part) (r : Result ℕ Misplaced) (e : Misplaced) → Answers ws ps r → r ≡ Err e → e.word ≤ length ws
+fault_within ws ps (Err f) e h q = let w : f ≡ e = cc in misplaced_within ws e.word (h ∙ ap (λ z. Some z.word) w)
+fault_within ws ps (Ok t) e h q = absurd (cc)
 
 -- The tests of the words' places, by what the two scans answer.
 abbrev placed : ℕ → Option ℕ → Option ℕ → Option Hold
 placed l m u =
     first_case ((on_word 9 l (word_number m), is_some m) ∷ (on_word 10 l (word_number u), is_some u) ∷ [])
-
-pub misplaced_fits : (n l : ℕ) (ws : List Word) (k : ℕ) → misplaced ws ≡ Some k → first_case (place_holds n l ws) ≡ Some (on_word 9 l (k + 1))
-misplaced_fits n l ws k e = ap (λ m. placed l m (unknown n ws)) e
 
 none_misplaced : (ws : List Word) (ps : List Part) (top : ℕ) → RuleRead ws ps top → misplaced ws ≡ None
 none_misplaced ws ps top r = (misplaced_means ws).0.1 (r.raw, r.reads)
@@ -55,13 +46,6 @@ none_placed n l ws ps top r e =
 
 -- The tests of a rule's words.
 module _ (n l : ℕ) (ws : List Word) where
-  eleventh : Cases Hold
-  eleventh = (on_line 11 l, ltb 64 (length (parts (rule_formula ws)))) ∷ []
-
-  pub long_fits : ltb 200 (length ws) ≡ true → first_case (words_holds n l ws) ≡ Some (on_line 8 l)
-  long_fits h =
-      ap (λ b. cond b (Some (on_line 8 l)) (first_case (place_holds n l ws ++ (on_line 11 l, ltb 64 (length (parts (rule_formula ws)))) ∷ []))) h
-
   pub place_fits : ltb 200 (length ws) ≡ false → (h : Hold) → first_case (place_holds n l ws) ≡ Some h → first_case (words_holds n l ws) ≡ Some h
   place_fits s h e =
       ap (λ b. cond b (Some (on_line 8 l)) (first_case (place_holds n l ws ++ (on_line 11 l, ltb 64 (length (parts (rule_formula ws)))) ∷ []))) s

@@ -1,20 +1,13 @@
 -- What a sheet says.
-use Rattle.std.specs.Prelude.{◌≡◌, ℕ, true, cond, List, [], ◌∷◌, map, Some, None, Ok, Err, vec_items, vec_len, Result}
+use Rattle.std.specs.Prelude.{◌≡◌, ℕ, ◌+◌, List, map, length, OnOk, Some, None, Ok, Err, vec_items, vec_len, Result}
+use Rattle.std.specs.List.{All}
+use Rattle.std.specs.Option.{option_to_list}
 use Rattle.holds.specs.Cases.{Hold, Cases, first_case}
-use Rattle.parts.specs.declared.part.Part.{Part}
-use Rattle.words.specs.declared.word.Word.{Word}
-use Rattle.grammar.specs.Scan.{unknown}
-use Rattle.reader.specs.Answers.{RuleRead}
 use Rattle.roster.specs.Faults.{answered}
 use Rattle.roster.specs.Rosters.{entries}
-use Rattle.roster.specs.declared.fault.WordFault.{WordFault}
-use Rattle.roster.specs.declared.fault.RuleFault.{RuleFault}
-use Rattle.roster.specs.declared.fault.RuleFault.TheVariants.{Words}
 use Rattle.roster.specs.declared.fault.SheetFault.{SheetFault}
-use Rattle.roster.specs.declared.fault.SheetFault.TheVariants.{Rule as OfRule}
 use Rattle.rule.specs.Ruled.{rule_formula}
-use Rattle.rule.specs.declared.rule.Rule.{Rule}
-use Rattle.sheet.specs.Texts.{Draft, Meant, lines, place_holds, sheet_hold, said, rule_formula as formula_of, words_holds}
+use Rattle.sheet.specs.Texts.{Draft, Meant, lines, sheet_hold, said}
 use Rattle.sheet.specs.declared.sheet.Sheet.{Sheet}
 use Rattle.sheet.specs.declared.reading.Reading.{Reading}
 
@@ -23,26 +16,21 @@ draft_of s = record { entries = entries s.roster; rules = map rule_formula (vec_
 
 -- What was read so far.
 abbrev pub draft_so_far : Reading → Draft
-draft_so_far b = record { entries = entries b.roster; rules = cond b.ruled (rule_formula b.rule ∷ []) [] }
+draft_so_far b = record { entries = entries b.roster; rules = map rule_formula (vec_items b.rules) }
 
--- The words are a rule over n signals, and its formula stands in the table; else the first fault in the words.
-abbrev pub Worded : List Word → ℕ → ℕ → List Part → Result ℕ WordFault → Type 0
-Worded ws n l ps (Ok top) = RuleRead ws ps top × (unknown n ws ≡ None)
-Worded ws n l ps (Err f) = first_case (place_holds n l ws) ≡ Some (answered (OfRule (Words f)))
-
--- The rule is that of the words, over n signals; else the first fault of the rule.
-abbrev pub Ruled : {A : Type 0} → List Word → ℕ → ℕ → Rule → Result A RuleFault → Type 0
-Ruled ws n l r (Ok u) = (first_case (words_holds n l ws) ≡ None) × (rule_formula r ≡ formula_of ws) × (r.signals ≡ n)
-Ruled ws n l r (Err f) = first_case (words_holds n l ws) ≡ Some (answered (OfRule f))
-
--- The rule that was read is over all the signals.
-abbrev pub Over : Reading → Type 0
-Over b = b.ruled ≡ true → b.rule.signals ≡ vec_len b.roster.signals
+-- The rule is still to come and its memory spare, or it was read and is over all the signals.
+pub record Ready (b : Reading) : Type 0 where
+  pub one : length (option_to_list b.spare) + vec_len b.rules ≡ 1
+  pub over : All (λ r. r.signals ≡ vec_len b.roster.signals) (vec_items b.rules)
 
 -- What judged lines lead to: what is wanted, where no test fits; else the fault of the first that fits.
 abbrev pub Drafted : {A : Type 0} → Cases Hold → Draft → Draft → Result A SheetFault → Type 0
 Drafted ts want got (Ok u) = (first_case ts ≡ None) × (got ≡ want)
 Drafted ts want got (Err f) = first_case ts ≡ Some (answered f)
+
+-- The same of a reading, which is then ready for the next line.
+abbrev pub Advances : {A : Type 0} → Cases Hold → Draft → Reading → Result A SheetFault → Type 0
+Advances ts want b r = Drafted ts want (draft_so_far b) r × OnOk r (Ready b)
 
 -- What the reading of a text answers: the sheet that the text says, where nothing fits, with the rule that its last line
 -- means; else the first hold that fits.

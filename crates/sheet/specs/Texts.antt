@@ -1,5 +1,6 @@
 -- A sheet as a text: when it is held back and under what, and what an accepted one says.
-use Rattle.std.specs.Prelude.{◌≡◌, ℕ, suc, ◌+◌, ◌≤◌, Bool, true, false, cond, not, ◌||◌, List, [], ◌∷◌, ◌++◌, length, drop, is_some, Some, codes, Option, ◌==◌, nat_lt}
+use Rattle.std.specs.Prelude.{◌≡◌, ℕ, suc, ◌+◌, ◌-◌, ◌≤◌, Bool, true, false, cond, not, ◌||◌, List, [], ◌∷◌, ◌++◌, length, drop, is_some, Some, codes, Option, ◌==◌, nat_lt, slice_index_or}
+use Rattle.std.specs.List.{onto_first}
 use Rattle.std.specs.Option.{unwrap_or}
 use Rattle.temporal.specs.Formula.{Formula, never}
 use Rattle.temporal.specs.Parts.{parts}
@@ -11,12 +12,12 @@ use Rattle.grammar.specs.Grammar.{Reads}
 use Rattle.grammar.specs.Machine.{raw_of}
 use Rattle.grammar.specs.Scan.{misplaced, unknown}
 use Rattle.roster.specs.Written.{written}
-use Rattle.roster.specs.Entries.{Entries, after_post, begins_with, no_entries, onto, post_holds, signal_names}
+use Rattle.roster.specs.Entries.{Entries, after_post, begins_with, no_entries, post_holds, signal_names}
 
 -- The lines of a text, each ended by byte 10, which the last may lack.
 abbrev pub lines : List ℕ → List (List ℕ)
 lines [] = []
-lines (c ∷ cs) = cond (c == 10) ([] ∷ lines cs) (onto c (lines cs))
+lines (c ∷ cs) = cond (c == 10) ([] ∷ lines cs) (onto_first c (lines cs))
 
 -- What the lines say so far: posts and signals, and the rules.
 pub record Draft : Type 0 where
@@ -85,9 +86,7 @@ after_lines d [] = d
 after_lines d (x ∷ xs) = after_lines (after_line d x) xs
 
 abbrev pub last_byte : List ℕ → ℕ
-last_byte [] = 0
-last_byte (b ∷ []) = b
-last_byte (b ∷ (c ∷ cs)) = last_byte (c ∷ cs)
+last_byte bs = slice_index_or bs (length bs - 1) 0
 
 -- The sheet is empty, over 4,096 bytes, or lacks its last line end.
 abbrev pub wrong_whole : List ℕ → Bool

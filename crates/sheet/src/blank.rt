@@ -1,7 +1,19 @@
 //! A sheet before it is read.
-ghost use Rattle.std.specs.Prelude.{◌≡◌, false, vec_len};
+ghost use Rattle.std.specs.Prelude.{◌≡◌, IfOk, length, vec_len};
+ghost use Rattle.std.specs.Option.{option_to_list};
+ghost use Rattle.sheet.specs.Texts.{blank};
 
 use crate::reading::Reading;
+use crate::sheet::Sheet;
+use compact::Workspace;
+use reader::Reader;
+use roster::{Roster, SheetFault};
+use rule::Rule;
+use std::alloc::{AllocError, Global};
+use words::WordList;
+
+/// The most bytes of a sheet.
+pub const MOST_BYTES: usize = 4096;
 
 /// The memory of a sheet and of its reading; nothing was read.
 #[derive(Drop)]
@@ -9,5 +21,46 @@ pub struct Blank {
     pub(crate) reading: Reading,
     ghost no_posts: { vec_len reading.roster.posts ≡ 0 },
     ghost no_signals: { vec_len reading.roster.signals ≡ 0 },
-    ghost no_rule: { reading.ruled ≡ false },
+    ghost no_rule: { vec_len reading.rules ≡ 0 },
+    ghost spare: { length (option_to_list reading.spare) ≡ 1 },
+}
+
+impl Blank {
+    ghost use Rattle.sheet.specs.Sheets.{Read, draft_so_far};
+
+    /// A blank sheet; all the memory of a sheet and of its reading is taken here.
+    pub fn new(heap: Global) -> Result<Blank, AllocError>
+        ensures { IfOk result (λ b. draft_so_far b.reading ≡ blank) }
+    {
+        let roster = Roster::new(heap)?;
+        let rule = Rule::new(heap)?;
+        let rules = Vec::with_capacity(heap, 1)?;
+        let words = WordList::new(heap)?;
+        let reader = Reader::new(heap)?;
+        let space = Workspace::new(heap)?;
+        let reading = Reading {
+            roster,
+            spare: Some(rule),
+            rules,
+            words,
+            reader,
+            space,
+        };
+        Ok(Blank { reading })
+    }
+
+    /// The sheet that a text is, or why it is held back.
+    pub fn read(self, text: &[u8]) -> Result<Sheet, SheetFault>
+        ensures { Read text.now result }
+    {
+        if text.len() > MOST_BYTES {
+            return Err(SheetFault::Whole);
+        }
+        let Some(lines) = text.strip_suffix(b"\n") else {
+            return Err(SheetFault::Whole);
+        };
+        let Blank { mut reading } = self;
+        reading.read_lines(lines)?;
+        Ok(reading.finish())
+    }
 }

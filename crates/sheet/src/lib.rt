@@ -2,12 +2,8 @@
 #![tactic(auto)]
 
 mod blank;
-mod blanks;
 mod reading;
-mod readings;
 mod sheet;
-mod sheets;
 
-pub use blank::Blank;
-pub use blanks::MOST_BYTES;
+pub use blank::{Blank, MOST_BYTES};
 pub use sheet::Sheet;

@@ -1,6 +1,4 @@
-use Rattle.std.proofs.Common.{sym, ap, ◌∙◌, ap₂, arith}
-use Rattle.temporal.specs.Formula.Op.{or}
-use Rattle.temporal.specs.Shorten.{joinˢ}
+use Rattle.std.proofs.Common.{ap, arith}
 use Rattle.parts.specs.Places.{formula}
 use Rattle.parts.specs.Tables.{parts_of}
 use Rattle.parts.proofs.Making.{made_then, stood}
@@ -12,5 +10,6 @@ returns-in-Implies c =
     let ps = parts_of c.args.table.now in
     let negated = c.put_unary-not_x.ensures in
     let right = stood 1 _ _ _ _ c.args.y negated c.requires.y in
+    let by = ap (λ o. connectˢ o (formula ps c.args.x) (formula ps c.args.y)) c.in-Implies.is in
     made_then 2 1 1 ps _ _ _ _ _ _ _ (omega arith) negated c.put_binary.ensures
-    (ap₂ (joinˢ or) negated.stands.formula_is right ∙ ap (λ o. connectˢ o (formula ps c.args.x) (formula ps c.args.y)) (sym c.in-Implies.is))
+    (cc (negated.stands.formula_is, right, by))

@@ -1,5 +1,11 @@
-use Rattle.reader.proofs.Waits.{ends_open}
+use Rattle.std.proofs.Common.{subst}
+use Rattle.parts.specs.Tables.{parts_of}
+use Rattle.reader.specs.Steps.{Ends}
+use Rattle.reader.proofs.Waits.{ends}
 use Rattle.reader.proofs.reader.Reader.finish.Goals as goal
 
-pub returns-in-Some : goal.returns-in-Some
-returns-in-Some c = ends_open _ _ _ _ _ _ _ _ _ c.in_ok-x.was c.reduce-top.ensures c.in-Some.ensures.items
+pub returns : goal.returns
+returns c =
+    let count = c.reduce-top.new.self.frames.ok.0 in
+    subst (Ends c.args.self.now (parts_of c.reduce-top.new.self.table)) (cc (c.then_some.ensures, c.is_empty.ensures, count))
+    (ends _ _ _ _ _ _ _ c.in_ok-x.was c.reduce-top.ensures)

@@ -1,13 +1,14 @@
-use Rattle.std.proofs.Common.{◌≡◌, ◌≤◌, Some, vec_items, vec_len}
+use Rattle.std.proofs.Common.{◌≡◌, ◌<◌, ◌≤◌, length, vec_items, vec_len}
 use Rattle.parts.specs.Tables.{parts_of}
-use Rattle.reader.specs.Waiting.{Fit, load, reducing}
+use Rattle.reader.specs.Steps.{load_of}
+use Rattle.reader.specs.Waiting.{reducing}
 use Rattle.reader.proofs.reader.Reader.reduce.Given as goal
 
--- Every place is one of the table's, no more was made than frames left, and what is left to reduce is the same.
+-- The place is one of the table's, no more was made than frames left, and what is left to reduce is the same.
 abbrev pub invariant-loop-frame : goal.invariant-loop-frame
 invariant-loop-frame l =
-    Fit (parts_of l.self.table) (vec_items l.self.frames) (Some l.x)
-    × (load (parts_of l.self.table) (vec_items l.self.frames) ≤ load (parts_of l.initial.self.table) (vec_items l.initial.self.frames))
+    (l.x < length (parts_of l.self.table))
+    × (load_of l.self ≤ load_of l.initial.self)
     × (reducing l.bound (parts_of l.self.table) (vec_items l.self.frames) l.x ≡ reducing l.bound (parts_of l.initial.self.table) (vec_items l.initial.self.frames) l.start)
 
 abbrev pub decreases-loop-frame : goal.decreases-loop-frame

@@ -1,4 +1,4 @@
-use Rattle.std.proofs.Common.{length, vec_items, refl, ap, arith}
+use Rattle.std.proofs.Common.{length, vec_items, ap, rules, arith}
 use Rattle.std.proofs.lemmas.List.{length-map}
 use Rattle.roster.specs.Rosters.{post_name, owned}
 use Rattle.sheet.proofs.blank.Blank.new.Goals as goal
@@ -12,5 +12,6 @@ invariant_of-result c =
     record {
       no_posts = omega (arith, p, length-map (vec_items r.posts) post_name, r.posts.ok.0);
       no_signals = omega (arith, s, length-map (vec_items r.signals) owned, r.signals.ok.0);
-      no_rule = refl;
+      no_rule = search rules;
+      spare = search rules;
     }

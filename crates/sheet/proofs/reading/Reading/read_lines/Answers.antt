@@ -1,54 +1,70 @@
-use Rattle.std.proofs.Common.{true, false, sym, ◌∙◌, add-one, arith}
+use Rattle.std.proofs.Common.{◌≡◌, ◌<◌, [], ◌∷◌, ◌++◌, drop, length, true, false, add-one, eqb, map, vec_items, vec_len, rules, tests, sym, ap, ◌∙◌, arith}
+use Rattle.std.specs.List.{slice_split}
+use Rattle.std.proofs.lemmas.List.{length_push}
 use Rattle.std.proofs.lemmas.Result.{IfOk-from_err}
+use Rattle.std.proofs.lemmas.Iterator.Splits.{YieldsList-from_slice_split}
+use Rattle.holds.specs.Cases.{first_case}
 use Rattle.rule.specs.Ruled.{rule_formula}
 use Rattle.roster.specs.Rosters.{entries}
 use Rattle.sheet.specs.Sheets.{draft_so_far}
-use Rattle.sheet.specs.Texts.{after_lines, lines, lines_holds}
-use Rattle.sheet.proofs.Lines.{all_read, drafted_exit, line_breaks, line_joins, line_passes, next_line, rule_missing}
+use Rattle.sheet.specs.Texts.{after_lines, lines_holds}
+use Rattle.sheet.proofs.Spares.{counted}
+use Rattle.sheet.proofs.Lines.{behind, drafted_exit, last_part, line_breaks, line_joins, line_passes, next_part}
+use Rattle.sheet.proofs.reading.Reading.read_lines.Goals.{In-Some, In-None}
 use Rattle.sheet.proofs.reading.Reading.read_lines.Goals as goal
 
-pub returns-in_err-read_line : goal.returns-in_err-read_line
-returns-in_err-read_line c =
-    let inv = c.loop-at.invariant in
-    let d = draft_so_far c.args.self.now in
-    let ls = lines c.args.text.now in
-    let next = next_line c.args.text.now c.loop-at.at c.find-end.result c.loop-at-test.true c.find-end.ensures.value in
-    record {
-      draft = drafted_exit (lines_holds d 1 ls) (after_lines d ls) (draft_so_far c.read_line.new.self) _ _ c.from_residual.ensures.1 (sym inv.3 ∙ line_breaks (draft_so_far c.loop-at.self) c.loop-at.number _ _ _ next _ c.in_err-read_line.ensures.draft);
-      over = IfOk-from_err _ _ c.from_residual.ensures.0;
-      ruled = IfOk-from_err _ _ c.from_residual.ensures.0;
-    }
+-- The line is the next part of the text; where none is left, all were read.
+next : (c : In-Some) → (length c.loop-line.yielded < length (slice_split (λ b. eqb b 10) c.args.text.now))
+    × (drop (length c.loop-line.yielded) (slice_split (λ b. eqb b 10) c.args.text.now) ≡ c.in-Some.line.now ∷ drop (length (c.loop-line.yielded ++ c.in-Some.line ∷ [])) (slice_split (λ b. eqb b 10) c.args.text.now))
+next c =
+    next_part c.loop-line.yielded c.loop-line.line-iterator c.loop-line.yielded_by c.next.result c.next.new.self c.in-Some.line c.in-Some.is c.next.ensures.steps
+    (YieldsList-from_slice_split _ (λ b. eqb b 10) c.args.text.now (search rules) (search rules) (search rules) (λ x b q k. search (rules, tests)))
 
-pub loop-at-preserved : goal.loop-at-preserved
-loop-at-preserved c =
-    let inv = c.loop-at.invariant in
-    let d = draft_so_far c.loop-at.self in
-    let next = next_line c.args.text.now c.loop-at.at c.find-end.result c.loop-at-test.true c.find-end.ensures.value in
-    let went = c.in_ok-read_line.ensures in (
-      omega (arith, c.find-end.ensures.bound),
-      omega (arith, inv.1, c.find-end.ensures.value),
-      went.over,
-      line_passes d c.loop-at.number _ _ _ next _ _ went.draft.0 went.draft.1 (add-one c.loop-at.number) ∙ inv.3,
-      line_joins d c.loop-at.number _ _ _ next _ went.draft.1 ∙ inv.4,
+last : (c : In-None) → drop (length c.loop-line.yielded) (slice_split (λ b. eqb b 10) c.args.text.now) ≡ []
+last c =
+    last_part c.loop-line.yielded c.loop-line.line-iterator c.loop-line.yielded_by c.next.result c.next.new.self c.in-None.is c.next.ensures.steps
+    (YieldsList-from_slice_split _ (λ b. eqb b 10) c.args.text.now (search rules) (search rules) (search rules) (λ x b q k. search (rules, tests)))
+
+pub returns-in_err-read_line-clause-draft : goal.returns-in_err-read_line-clause-draft
+returns-in_err-read_line-clause-draft c =
+    let inv = c.loop-line.invariant in
+    let d = draft_so_far c.args.self.now in
+    let ls = slice_split (λ b. eqb b 10) c.args.text.now in
+    let part = (next (goal.at.returns-in_err-read_line-clause-draft c).In-Some).1 in (
+      drafted_exit (lines_holds d 1 ls) (after_lines d ls) (draft_so_far c.read_line.new.self) _ _ c.from_residual.ensures.1 (sym inv.2 ∙ line_breaks (draft_so_far c.loop-line.self) c.loop-line.number _ _ _ part _ c.in_err-read_line.ensures.0),
+      IfOk-from_err _ _ c.from_residual.ensures.0,
     )
 
-pub returns-then-not-self : goal.returns-then-not-self
-returns-then-not-self c =
-    let b = c.loop-at.self in
-    record {
-      draft = sym c.loop-at.invariant.3 ∙ rule_missing (entries b.roster) b.ruled (rule_formula b.rule) c.loop-at.number c.args.text.now c.loop-at.at c.loop-at-test.false false c.if-not-self.true;
-      over = tt;
-      ruled = tt;
-    }
+pub loop-line-preserved : goal.loop-line-preserved
+loop-line-preserved c =
+    let inv = c.loop-line.invariant in
+    let d = draft_so_far c.loop-line.self in
+    let part = (next (goal.at.loop-line-preserved c).In-Some).1 in
+    let went = c.in_ok-read_line.ensures in (
+      omega (arith, length_push c.loop-line.yielded c.in-Some.line),
+      went.1,
+      line_passes d c.loop-line.number _ _ _ part _ _ went.0.0 went.0.1 (add-one c.loop-line.number) ∙ inv.2,
+      line_joins d c.loop-line.number _ _ _ part _ went.0.1 ∙ inv.3,
+    )
 
-pub returns : goal.returns
-returns c =
-    let b = c.loop-at.self in
-    record {
-      draft = (
-        sym c.loop-at.invariant.3 ∙ rule_missing (entries b.roster) b.ruled (rule_formula b.rule) c.loop-at.number c.args.text.now c.loop-at.at c.loop-at-test.false true c.if-not-self.false,
-        sym (all_read (entries b.roster) b.ruled (rule_formula b.rule) c.loop-at.number c.args.text.now c.loop-at.at c.loop-at-test.false) ∙ c.loop-at.invariant.4,
-      );
-      over = c.loop-at.invariant.2;
-      ruled = c.if-not-self.false;
-    }
+pub returns-then-is_empty-clause-draft : goal.returns-then-is_empty-clause-draft
+returns-then-is_empty-clause-draft c =
+    let b = c.loop-line.self in
+    let end = ap (λ z. first_case (lines_holds (draft_so_far b) c.loop-line.number z)) (last (goal.at.returns-then-is_empty-clause-draft c).In-None) in
+    let counts = counted rule_formula (vec_items b.rules) (vec_len b.rules) b.rules.ok.0 in
+    let missing = sym c.loop-line.invariant.2 ∙ end ∙ behind (entries b.roster) (map rule_formula (vec_items b.rules)) c.loop-line.number true (cc (counts)) in
+    (cc (missing), tt)
+
+pub returns-clause-draft : goal.returns-clause-draft
+returns-clause-draft c =
+    let inv = c.loop-line.invariant in
+    let b = c.loop-line.self in
+    let none = last (goal.at.returns-clause-draft c).In-None in
+    let end = ap (λ z. first_case (lines_holds (draft_so_far b) c.loop-line.number z)) none in
+    let counts = counted rule_formula (vec_items b.rules) (vec_len b.rules) b.rules.ok.0 in (
+      (
+        sym inv.2 ∙ end ∙ behind (entries b.roster) (map rule_formula (vec_items b.rules)) c.loop-line.number false (cc (counts)),
+        sym (ap (after_lines (draft_so_far b)) none) ∙ inv.3,
+      ),
+      inv.1,
+    )

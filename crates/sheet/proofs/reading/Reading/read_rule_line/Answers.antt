@@ -1,65 +1,104 @@
-use Rattle.std.proofs.Common.{length, vec_items, sym, ap, ◌∙◌}
+use Rattle.std.proofs.Common.{◌≡◌, ℕ, false, true, eqb, List, length, map, Some, vec_items, vec_len, None, sym, ap, ◌∙◌, rules, arith}
 use Rattle.std.proofs.lemmas.List.{length-map}
 use Rattle.std.proofs.lemmas.Result.{IfOk-from_err}
 use Rattle.holds.specs.Cases.{first_case}
+use Rattle.words.specs.Lists.{Holds}
+use Rattle.words.specs.Named.{name_bytes}
+use Rattle.words.specs.Texts.{words_of}
+use Rattle.words.specs.declared.word.Word.{Word}
 use Rattle.rule.specs.Ruled.{rule_formula}
-use Rattle.roster.specs.Rosters.{owned}
+use Rattle.roster.specs.Faults.{answered}
+use Rattle.roster.specs.Rosters.{entries, owned}
+use Rattle.roster.specs.declared.fault.SheetFault.TheVariants.{Byte}
 use Rattle.sheet.specs.Sheets.{draft_so_far}
 use Rattle.sheet.specs.Texts.{after_rule, rule_holds, words_holds}
-use Rattle.sheet.proofs.RuleLines.{foreign_fits, first_fits, second_fits, words_decide, rule_joins, drafted_break}
+use Rattle.sheet.proofs.Lines.{drafted_exit}
+use Rattle.sheet.proofs.Mapped.{MapsErr, err_was, ok_was}
+use Rattle.sheet.proofs.RuleLines.{cut_none, cut_some, foreign_fits, first_fits, second_fits, words_decide, rule_joins, drafted_break}
+use Rattle.sheet.proofs.Spares.{one_read, over_one, counted, spare_none, spare_some, spent, unread}
+use Rattle.sheet.proofs.reading.Reading.read_rule_line.Goals.{In_ok-map_err, In-Some}
 use Rattle.sheet.proofs.reading.Reading.read_rule_line.Goals as goal
 
-pub returns-in-Err : goal.returns-in-Err
-returns-in-Err c =
+-- The words of the text.
+words_cut : (c : In_ok-map_err) → (ws : List Word) × (words_of (map (λ s. name_bytes s.name) c.signals.result.now) c.args.text.now ≡ Some ws) × Holds ws c.cut.new.self
+words_cut c =
+    let mapped : MapsErr c.cut.result c.map_err.result (Byte c.args.line) = search rules in
+    cut_some _ _ c.cut.result _ c.cut.ensures (ok_was c.cut.result c.map_err.result (Byte c.args.line) _ mapped c.in_ok-map_err.was)
+
+-- The rule is spare, and none was read.
+none_read : (c : In-Some) → length (vec_items c.args.self.now.rules) ≡ 0
+none_read c =
     let b = c.args.self.now in
-    record {
-      draft = foreign_fits (vec_items b.roster.posts) (vec_items b.roster.signals) b.ruled (rule_formula b.rule) c.args.line c.args.text.now _ c.signals.ensures.items c.in-Err.ensures;
-      over = tt;
-    }
+    let taken : b.spare ≡ Some c.in-Some.rule = search rules in
+    let none = spare_some b.spare c.in-Some.rule (vec_len b.rules) taken c.requires.one in
+    omega (arith, b.rules.ok.0)
+
+-- So the words decide.
+decided : (c : In-Some) (ws : List Word) → words_of (map (λ s. name_bytes s.name) c.signals.result.now) c.args.text.now ≡ Some ws → (n : ℕ) → n ≡ length (map owned (vec_items c.args.self.now.roster.signals))
+    → first_case (rule_holds (draft_so_far c.args.self.now) c.args.line c.args.text.now) ≡ first_case (words_holds n c.args.line ws)
+decided c ws cut n e =
+    let b = c.args.self.now in
+    let some : false ≡ eqb (length c.posts.result.now) 0 = search rules in
+    words_decide (vec_items b.roster.posts) (vec_items b.roster.signals) (map rule_formula (vec_items b.rules)) c.args.line c.args.text.now _ ws c.signals.ensures.items cut _ c.posts.ensures.items some (unread (vec_items b.rules) (none_read c))
+    ∙ ap (λ k. first_case (words_holds k c.args.line ws)) (sym e)
+
+pub returns-in_err-map_err : goal.returns-in_err-map_err
+returns-in_err-map_err c =
+    let b = c.args.self.now in
+    let mapped : MapsErr c.cut.result c.map_err.result (Byte c.args.line) = search rules in
+    let was = err_was c.cut.result c.map_err.result (Byte c.args.line) _ mapped c.in_err-map_err.was in
+    let gone = cut_none _ _ c.cut.result c.cut.ensures was.0 in
+    let fits = foreign_fits (vec_items b.roster.posts) (vec_items b.roster.signals) (map rule_formula (vec_items b.rules)) c.args.line c.args.text.now _ c.signals.ensures.items gone in (
+      drafted_exit (rule_holds (draft_so_far b) c.args.line c.args.text.now) (after_rule (draft_so_far b) c.args.text.now) _ _ _ c.from_residual.ensures.1 (fits ∙ ap (λ f. Some (answered f)) (sym was.1)),
+      IfOk-from_err _ _ c.from_residual.ensures.0,
+    )
 
 pub returns-then-is_empty : goal.returns-then-is_empty
 returns-then-is_empty c =
     let b = c.args.self.now in
-    let cut = c.in_default.ensures in
-    record {
-      draft = first_fits (vec_items b.roster.posts) (vec_items b.roster.signals) b.ruled (rule_formula b.rule) c.args.line c.args.text.now _ cut.0 c.signals.ensures.items cut.1 _ c.posts.ensures.items (cc);
-      over = tt;
-    }
+    let cut = words_cut (goal.at.returns-then-is_empty c).In_ok-map_err in
+    let empty : true ≡ eqb (length c.posts.result.now) 0 = search rules in
+    (first_fits (vec_items b.roster.posts) (vec_items b.roster.signals) (map rule_formula (vec_items b.rules)) c.args.line c.args.text.now _ cut.0 c.signals.ensures.items cut.1 _ c.posts.ensures.items empty, tt)
 
-pub returns-then-self : goal.returns-then-self
-returns-then-self c =
+pub returns-in_default : goal.returns-in_default
+returns-in_default c =
     let b = c.args.self.now in
-    let cut = c.in_default.ensures in
-    record {
-      draft = second_fits (vec_items b.roster.posts) (vec_items b.roster.signals) b.ruled (rule_formula b.rule) c.args.line c.args.text.now _ cut.0 c.signals.ensures.items cut.1 _ c.posts.ensures.items (cc) c.if-self.true;
-      over = tt;
-    }
+    let cut = words_cut (goal.at.returns-in_default c).In_ok-map_err in
+    let some : false ≡ eqb (length c.posts.result.now) 0 = search rules in
+    let taken : b.spare ≡ None = search rules in
+    let one = spare_none b.spare (vec_len b.rules) taken c.requires.one in
+    let read = sym (counted rule_formula (vec_items b.rules) (vec_len b.rules) b.rules.ok.0) ∙ ap (λ n. eqb n 0) one in
+    (second_fits (vec_items b.roster.posts) (vec_items b.roster.signals) (map rule_formula (vec_items b.rules)) c.args.line c.args.text.now _ cut.0 c.signals.ensures.items cut.1 _ c.posts.ensures.items some read, tt)
 
 pub returns-in_err-read_rule : goal.returns-in_err-read_rule
 returns-in_err-read_rule c =
     let b = c.args.self.now in
-    let ss = vec_items b.roster.signals in
-    let cut = c.in_default.ensures in
-    let count = ap length c.signals-2.ensures.items ∙ sym (length-map ss owned) in
-    let decide = words_decide (vec_items b.roster.posts) ss b.ruled (rule_formula b.rule) c.args.line c.args.text.now _ cut.0 c.signals.ensures.items cut.1 _ c.posts.ensures.items (cc) c.if-self.false in
-    let held = c.in_err-read_rule.ensures cut.0 cut.2 in
-    record {
-      draft = drafted_break (rule_holds (draft_so_far b) c.args.line c.args.text.now) (after_rule (draft_so_far b) c.args.text.now) _ _ _ c.from_residual.ensures.1 (decide ∙ ap (λ n. first_case (words_holds n c.args.line cut.0)) (sym count) ∙ held);
-      over = IfOk-from_err _ _ c.from_residual.ensures.0;
-    }
+    let cut = words_cut (goal.at.returns-in_err-read_rule c).In_ok-map_err in
+    let count = ap length c.signals-2.ensures.items ∙ sym (length-map (vec_items b.roster.signals) owned) in
+    let holds = decided (goal.at.returns-in_err-read_rule c).In-Some cut.0 cut.1 _ count in (
+      drafted_break (rule_holds (draft_so_far b) c.args.line c.args.text.now) (after_rule (draft_so_far b) c.args.text.now) _ _ _ c.from_residual-in_err-read_rule.ensures.1 (holds ∙ c.in_err-read_rule.ensures cut.0 cut.2),
+      IfOk-from_err _ _ c.from_residual-in_err-read_rule.ensures.0,
+    )
 
 pub returns : goal.returns
 returns c =
     let b = c.args.self.now in
     let ss = vec_items b.roster.signals in
-    let cut = c.in_default.ensures in
+    let items = vec_items b.rules in
+    let cut = words_cut (goal.at.returns c).In_ok-map_err in
+    let none = none_read (goal.at.returns c).In-Some in
+    let some : false ≡ eqb (length c.posts.result.now) 0 = search rules in
     let count = ap length c.signals-2.ensures.items ∙ sym (length-map ss owned) in
-    let decide = words_decide (vec_items b.roster.posts) ss b.ruled (rule_formula b.rule) c.args.line c.args.text.now _ cut.0 c.signals.ensures.items cut.1 _ c.posts.ensures.items (cc) c.if-self.false in
     let ruled = c.in_ok-read_rule.ensures cut.0 cut.2 in
-    record {
-      draft = (
-        decide ∙ ap (λ n. first_case (words_holds n c.args.line cut.0)) (sym count) ∙ ruled.0,
-        rule_joins (vec_items b.roster.posts) ss b.ruled (rule_formula b.rule) c.args.line c.args.text.now _ cut.0 c.signals.ensures.items cut.1 _ c.posts.ensures.items (cc) c.if-self.false _ ruled.1,
-      );
-      over = λ _. ruled.2 ∙ ap length c.signals-2.ensures.items ∙ sym b.roster.signals.ok.0;
-    }
+    let rule = c.read_rule.new.rule in
+    let pushed = c.push_reserved.ensures.items in
+    let joined = rule_joins (vec_items b.roster.posts) ss (map rule_formula items) c.args.line c.args.text.now _ cut.0 c.signals.ensures.items cut.1 _ c.posts.ensures.items some (unread items none) _ ruled.1 in (
+      (
+        decided (goal.at.returns c).In-Some cut.0 cut.1 _ count ∙ ruled.0,
+        ap (λ fs. record { entries = entries b.roster; rules = fs }) (one_read items _ rule none pushed) ∙ joined,
+      ),
+      record {
+        one = spent c.take.new.self _ c.take.ensures.after (omega (arith, none, b.rules.ok.0, c.push_reserved.ensures.len));
+        over = over_one items _ rule (vec_len b.roster.signals) none pushed (ruled.2 ∙ ap length c.signals-2.ensures.items ∙ sym b.roster.signals.ok.0);
+      },
+    )

@@ -1,0 +1,18 @@
+use Rattle.std.proofs.Common.{◌≡◌, ◌≤◌, IsErrAnd, Ok, rules, arith}
+use Rattle.std.specs.Result.{MatchResult}
+use Rattle.parts.specs.Tables.{parts_of}
+use Rattle.roster.specs.declared.fault.RuleFault.TheVariants.{Large}
+use Rattle.sheet.proofs.Ruling.{ruled_break, ruled_become}
+use Rattle.sheet.proofs.reading.read_rule.Goals as goal
+
+pub returns-in_err-top : goal.returns-in_err-top
+returns-in_err-top c =
+    λ ws h. let few : c.args.words.now.count ≤ 200 = omega arith in
+    ruled_break ws c.args.words.now _ h few c.as_slice.ensures.items c.args.signals c.args.line c.args.rule.now _ _ c.from_residual.ensures.1 c.in_err-top.ensures
+
+pub returns : goal.returns
+returns c =
+    λ ws h. let few : c.args.words.now.count ≤ 200 = omega arith in
+    let read = c.in_ok-top.ensures in
+    let mapped : MatchResult c.become_part.result (λ x. c.map_err.result ≡ Ok x) (λ e. IsErrAnd c.map_err.result (λ f. f ≡ Large c.args.line)) = search rules in
+    ruled_become ws c.args.words.now _ h few c.as_slice.ensures.items c.args.signals c.args.line (parts_of c.read_words.new.reader.table) c.in_ok-top.top read.0 read.1 c.requires c.args.rule.now c.become_part.new.self _ _ c.become_part.ensures mapped
