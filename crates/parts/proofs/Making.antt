@@ -1,8 +1,8 @@
 -- Making one formula after another.
-use Rattle.std.proofs.Common.{◌≡◌, ℕ, ◌+◌, ◌<◌, ◌≤◌, List, length, get_or, vec_items, vec_len, Vec, sym, ◌∙◌, subst, arith}
+use Rattle.std.proofs.Common.{◌≡◌, ℕ, Some, None, Option, ◌+◌, ◌<◌, ◌≤◌, List, length, get_or, vec_items, vec_len, Vec, sym, ◌∙◌, subst, arith}
 use Rattle.std.proofs.lemmas.List.{length-take-le}
 use Rattle.temporal.specs.Formula.{Formula}
-use Rattle.parts.specs.Places.{formula, blank, reach, Sound, Made, in_use}
+use Rattle.parts.specs.Places.{formula, blank, reach, Sound, Grown, Made, Interned, in_use}
 use Rattle.parts.specs.Tables.{parts_in, parts_of}
 use Rattle.parts.specs.declared.lent.Lent.{Lent}
 use Rattle.parts.specs.declared.part.Unary.{Unary}
@@ -31,6 +31,14 @@ made_then k m n ps qs rs f g h i j l d e q =
       sound = e.sound;
       stands = record { inside = e.stands.inside; formula_is = e.stands.formula_is ∙ q };
     }
+
+-- What a constructor made, where there was room for it; and how the table grew, whether or not there was.
+pub made_by : (ps qs : List Part) (f : Formula) (r : Option ℕ) (i : ℕ) → Interned ps qs f r → r ≡ Some i → Made 1 ps qs f i
+made_by ps qs f r i h e = (subst (Interned ps qs f) e h).0
+
+pub interned_grown : (ps qs : List Part) (f : Formula) (r : Option ℕ) → Interned ps qs f r → Grown 1 ps qs
+interned_grown ps qs f (Some i) h = h.0.grown
+interned_grown ps qs f None h = subst (Grown 1 ps) (sym h.0) (grown_on 0 0 1 ps ps ps (omega arith) (grown_none ps) (grown_none ps))
 
 -- A formula made earlier still stands.
 pub stood : (n : ℕ) (ps qs : List Part) (f : Formula) (i k : ℕ) → Made n ps qs f i → k < length ps → formula qs k ≡ formula ps k

@@ -1,6 +1,6 @@
 //! Formulas made in a table that has room for them.
 ghost use Rattle.std.specs.Prelude.{◌≡◌, ◌+◌, ◌<◌, length};
-ghost use Rattle.parts.specs.Places.{Made, formula, oneˢ, twoˢ};
+ghost use Rattle.parts.specs.Places.{Made, formula, room};
 ghost use Rattle.parts.specs.Tables.{parts_of};
 ghost use Rattle.grammar.specs.Grammar.{leaf as leaf_of, level as level_of};
 ghost use Rattle.grammar.specs.Machine.{connectˢ};
@@ -23,58 +23,30 @@ pub(crate) fn level(by: Connective) -> u8
 
 /// The place of a leaf.
 pub(crate) fn put_leaf(table: &mut Table, leaf: Leaf) -> u16
-    requires { length (parts_of table.old) < 768 }
+    requires { length (parts_of table.old) < room }
     ensures { Made 1 (parts_of table.old) (parts_of table.new) (leaf_of leaf) result }
 {
     let place = match leaf {
         Leaf::Const(value) => table.constant(value),
         Leaf::Signal(p) => table.signal(p),
     };
-    match place {
-        Some(at) => at,
-        None => unreachable(),
-    }
-}
-
-/// The place of a prefix over the part at `x`, shortened.
-pub(crate) fn put_unary(table: &mut Table, sign: Unary, x: u16) -> u16
-    requires room { length (parts_of table.old) < 768 }
-    requires x { x < length (parts_of table.old) }
-    ensures { Made 1 (parts_of table.old) (parts_of table.new) (oneˢ sign (formula (parts_of table.old) x)) result }
-{
-    match table.unary(sign, x) {
-        Some(at) => at,
-        None => unreachable(),
-    }
-}
-
-/// The place of a sign over the parts at `x` and `y`, shortened.
-fn put_binary(table: &mut Table, sign: Binary, x: u16, y: u16) -> u16
-    requires room { length (parts_of table.old) < 768 }
-    requires x { x < length (parts_of table.old) }
-    requires y { y < length (parts_of table.old) }
-    ensures { Made 1 (parts_of table.old) (parts_of table.new) (twoˢ sign (formula (parts_of table.old) x) (formula (parts_of table.old) y)) result }
-{
-    match table.binary(sign, x, y) {
-        Some(at) => at,
-        None => unreachable(),
-    }
+    place.unwrap()
 }
 
 /// The place of a word between the parts at `x` and `y`, shortened.
 pub(crate) fn put_connective(table: &mut Table, by: Connective, x: u16, y: u16) -> u16
-    requires room { length (parts_of table.old) + 1 < 768 }
+    requires room { length (parts_of table.old) + 1 < room }
     requires x { x < length (parts_of table.old) }
     requires y { y < length (parts_of table.old) }
     ensures { Made 2 (parts_of table.old) (parts_of table.new) (connectˢ by (formula (parts_of table.old) x) (formula (parts_of table.old) y)) result }
 {
     match by {
         Connective::Implies => {
-            let not_x = put_unary(table, Unary::Not, x);
-            put_binary(table, Binary::Join(Junction::Or), not_x, y)
+            let not_x = table.unary(Unary::Not, x).unwrap();
+            table.binary(Binary::Join(Junction::Or), not_x, y).unwrap()
         }
-        Connective::Or => put_binary(table, Binary::Join(Junction::Or), x, y),
-        Connective::And => put_binary(table, Binary::Join(Junction::And), x, y),
-        Connective::Until => put_binary(table, Binary::Until, x, y),
+        Connective::Or => table.binary(Binary::Join(Junction::Or), x, y).unwrap(),
+        Connective::And => table.binary(Binary::Join(Junction::And), x, y).unwrap(),
+        Connective::Until => table.binary(Binary::Until, x, y).unwrap(),
     }
 }

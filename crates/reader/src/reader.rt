@@ -4,7 +4,7 @@ ghost use Rattle.parts.specs.Tables.{parts_of};
 ghost use Rattle.reader.specs.Waiting.{load, past, reach};
 ghost use Rattle.reader.specs.Answers.{Answers};
 
-use crate::building::{level, put_connective, put_leaf, put_unary};
+use crate::building::{level, put_connective, put_leaf};
 use crate::frame::Frame;
 use crate::misplaced::Misplaced;
 use parts::Table;
@@ -50,7 +50,7 @@ impl Reader {
         while let Some(frame) = self.frames.pop() {
             match frame {
                 Frame::Before(sign) => {
-                    x = put_unary(&mut self.table, sign, x);
+                    x = self.table.unary(sign, x).unwrap();
                 }
                 Frame::Between(by, left) => {
                     if level(by) < bound {

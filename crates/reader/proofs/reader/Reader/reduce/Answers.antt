@@ -1,13 +1,14 @@
 use Rattle.std.proofs.Common.{◌≡◌, ◌<◌, ◌≤◌, vec_items, ◌∙◌, arith}
 use Rattle.parts.specs.Tables.{parts_of}
 use Rattle.grammar.specs.Grammar.{level}
+use Rattle.parts.proofs.Making.{made_by, interned_grown}
 use Rattle.reader.proofs.Waits.{popped_is, turn_sign, turn_join, turn_on, left_inside, stays_join, stays_open, reduced_here, reach_popped, length_popped}
 use Rattle.reader.proofs.reader.Reader.reduce.Goals as goal
 
 pub loop-frame-preserved-in-Before : goal.loop-frame-preserved-in-Before
 loop-frame-preserved-in-Before c =
     let popped = popped_is (vec_items c.loop-frame.self.frames) (vec_items c.pop.new.self) _ _ c.in-Some.ensures.items c.in-Before.is in
-    let turn = turn_sign c.args.bound _ _ _ _ _ _ (omega arith) _ popped c.put_unary-x.ensures in
+    let turn = turn_sign c.args.bound _ _ _ _ _ _ (omega arith) _ popped (made_by _ _ _ _ _ c.unary.ensures c.unwrap-x.ensures) in
     turn_on c.args.bound _ _ _ _ _ _ _ _ turn c.loop-frame.invariant.1 c.loop-frame.invariant.2
 
 pub put_connective-x-requires : goal.put_connective-x-requires
@@ -50,7 +51,7 @@ pub invariant_of-self : goal.invariant_of-self
 invariant_of-self c =
     let fewer = reach_popped (vec_items c.loop-frame.self.frames) (vec_items c.pop.new.self) _ c.in-Some.ensures.items in
     let one_less = length_popped (vec_items c.loop-frame.self.frames) (vec_items c.pop.new.self) _ c.in-Some.ensures.items in
-    let grown = c.put_unary-x.ensures.grown in
+    let grown = interned_grown _ _ _ _ c.unary.ensures in
     record { room = omega arith; waiting_inside = omega arith; held_inside = omega arith; few = omega arith }
 
 pub invariant_of-self-in-Between : goal.invariant_of-self-in-Between
