@@ -2,42 +2,27 @@
 use Rattle.std.proofs.Common.{◌≡◌, ℕ, suc, ◌+◌, ◌<◌, ◌≤◌, Bool, true, false, cond, eqb, List, [], ◌∷◌, ◌++◌, length, take, drop, Some, None, codes, sym, refl, ap, ◌∙◌, subst, append_assoc, arith}
 use Rattle.std.proofs.lemmas.Slice.Eq.{bytes_eq-Decides}
 use Rattle.std.proofs.lemmas.List.{append-nil, length_push, take-append-drop}
+use Rattle.std.proofs.lemmas.List.Splits.{length-slice_split, join_with_byte-slice_split}
+use Rattle.std.specs.List.{join_with_byte}
 use Rattle.std.proofs.lemmas.Bool.{eq-eqb, eqb-true, ne_eqb}
-use Rattle.roster.specs.Entries.{Entries, Owned, PostLine, after_post, begins_with, onto, parted, pieces, post_line, with_line, with_post, with_signal, with_signals}
+use Rattle.roster.specs.Entries.{Entries, Owned, PostLine, after_post, begins_with, parted, pieces, post_line, with_line, with_post, with_signal, with_signals}
 use Rattle.roster.specs.Written.{behind, lines_from, owned_names, post_text, written}
-use Rattle.roster.proofs.Pieces.{some_piece}
 
--- Pieces joined again are the text.
-abbrev whole : ℕ → List (List ℕ) → List ℕ
-whole b [] = []
-whole b (p ∷ ps) = p ++ behind b ps
+-- Pieces, each with the mark before it, are the mark and the text that they part.
+behind_join : (b : ℕ) (ps : List (List ℕ)) → 1 ≤ length ps → behind b ps ≡ b ∷ join_with_byte b ps
+behind_join b [] l = absurd (omega arith)
+behind_join b (p ∷ []) l = ap (λ z. b ∷ z) (append-nil p)
+behind_join b (p ∷ (q ∷ ps)) l = ap (λ z. b ∷ (p ++ z)) (behind_join b (q ∷ ps) (omega arith))
 
-whole_onto : (b c : ℕ) (p : List ℕ) (ps : List (List ℕ)) → whole b (onto c (p ∷ ps)) ≡ c ∷ whole b (p ∷ ps)
-whole_onto b c p ps = refl
-
-joined_again : (b : ℕ) (bs : List ℕ) → whole b (pieces b bs) ≡ bs
-joined_again b [] = refl
-joined_again b (c ∷ cs) = go (eqb c b) refl (joined_again b cs) (some_piece b cs)
-  where
-    go : (t : Bool) → eqb c b ≡ t → whole b (pieces b cs) ≡ cs → ((p : List ℕ) × (ps : List (List ℕ)) × (pieces b cs ≡ p ∷ ps)) → whole b (cond t ([] ∷ pieces b cs) (onto c (pieces b cs))) ≡ c ∷ cs
-    go true e h s =
-        let first = ap (λ z. behind b z) s.2 in
-        let again = sym (ap (whole b) s.2) ∙ h in
-        first ∙ ap (λ z. b ∷ z) again ∙ ap (λ z. z ∷ cs) (sym (eqb-true c b e))
-    go false e h s =
-        let again = sym (ap (whole b) s.2) ∙ h in
-        ap (λ z. whole b (onto c z)) s.2 ∙ ap (λ z. c ∷ z) again
-
--- Each piece with a space before it.
 spaced_again : (bs : List ℕ) → behind 32 (pieces 32 bs) ≡ 32 ∷ bs
 spaced_again bs =
-    let s = some_piece 32 bs in
-    ap (behind 32) s.2 ∙ ap (λ z. 32 ∷ z) (sym (ap (whole 32) s.2) ∙ joined_again 32 bs)
+    let some = length-slice_split (λ c. eqb c 32) bs in
+    behind_join 32 (pieces 32 bs) (omega (arith, some)) ∙ ap (λ z. 32 ∷ z) (join_with_byte-slice_split 32 bs)
 
 no_none : {A : Type 0} {P : Type 0} (x : A) → None ≡ Some x → P
 no_none x e = let z : ◌≡◌ {A = ℕ} 0 1 = cc in absurd (omega arith)
 
-parted_written : (ps : List (List ℕ)) (p : PostLine) → parted ps ≡ Some p → whole 58 ps ≡ p.name ++ (58 ∷ behind 32 p.signals)
+parted_written : (ps : List (List ℕ)) (p : PostLine) → parted ps ≡ Some p → join_with_byte 58 ps ≡ p.name ++ (58 ∷ behind 32 p.signals)
 parted_written [] p e = no_none p e
 parted_written (x ∷ []) p e = no_none p e
 parted_written (x ∷ ([] ∷ [])) p e = no_none p e
@@ -46,10 +31,10 @@ parted_written (x ∷ ((b ∷ bs) ∷ [])) p e = go (eqb b 32) refl e
     q : PostLine
     q = record { name = x; signals = pieces 32 bs }
 
-    go : (t : Bool) → eqb b 32 ≡ t → cond t (Some q) None ≡ Some p → x ++ (58 ∷ ((b ∷ bs) ++ [])) ≡ p.name ++ (58 ∷ behind 32 p.signals)
+    go : (t : Bool) → eqb b 32 ≡ t → cond t (Some q) None ≡ Some p → x ++ (58 ∷ (b ∷ bs)) ≡ p.name ++ (58 ∷ behind 32 p.signals)
     go true i h =
         let same : q ≡ p = cc in
-        ap (λ z. x ++ (58 ∷ z)) (append-nil (b ∷ bs) ∙ ap (λ z. z ∷ bs) (eqb-true b 32 i) ∙ sym (spaced_again bs))
+        ap (λ z. x ++ (58 ∷ z)) (ap (λ z. z ∷ bs) (eqb-true b 32 i) ∙ sym (spaced_again bs))
         ∙ ap (λ z. z.name ++ (58 ∷ behind 32 z.signals)) same
     go false i h = no_none p h
 parted_written (x ∷ (y ∷ (z ∷ ps))) p e = no_none p e
@@ -61,7 +46,7 @@ line_written bs p e = go (begins_with (codes "post ") bs) refl e
     go true b h =
         sym (take-append-drop 5 bs)
         ∙ ap (λ z. z ++ drop 5 bs) ((bytes_eq-Decides (take 5 bs) (codes "post ")).0 b)
-        ∙ ap (λ z. codes "post " ++ z) (sym (joined_again 58 (drop 5 bs)) ∙ parted_written (pieces 58 (drop 5 bs)) p h)
+        ∙ ap (λ z. codes "post " ++ z) (sym (join_with_byte-slice_split 58 (drop 5 bs)) ∙ parted_written (pieces 58 (drop 5 bs)) p h)
     go false b h = no_none p h
 
 -- The owners are at most k.

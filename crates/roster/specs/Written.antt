@@ -1,11 +1,11 @@
 -- Post lines, written out.
 use Rattle.std.specs.Prelude.{ℕ, suc, cond, List, [], ◌∷◌, ◌++◌, codes, ◌==◌}
+use Rattle.std.specs.List.{flat_map}
 use Rattle.roster.specs.Entries.{Entries, Owned}
 
 -- The texts one behind the other, each with the byte b before it.
 abbrev pub behind : ℕ → List (List ℕ) → List ℕ
-behind b [] = []
-behind b (x ∷ xs) = b ∷ (x ++ behind b xs)
+behind b xs = flat_map (λ x. b ∷ x) xs
 
 -- `post`, a space, the name, a colon, and a space before each signal.
 abbrev pub post_text : List ℕ → List (List ℕ) → List ℕ

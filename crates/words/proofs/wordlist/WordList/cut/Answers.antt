@@ -8,10 +8,11 @@ use Rattle.words.proofs.wordlist.WordList.cut.Goals as goal
 pub loop-rest-preserved-in-62-1 : goal.loop-rest-preserved-in-62-1
 loop-rest-preserved-in-62-1 g c =
     let inv = c.loop-rest.invariant in
-    let w = word_of (map g.T.Named.label c.args.signals.now) in (
+    let w = word_of (map g.T.Named.label c.args.signals.now) in
+    let kept = cut_arrow w inv.0 c.loop-rest.rest.now (search rules) (search rules) (search rules) ∙ inv.2 in (
       inv.0 ++ Infix Implies ∷ [],
       c.add.ensures.words inv.0 inv.1,
-      cut_arrow w inv.0 c.loop-rest.rest.now (search rules) (search rules) (search rules) ∙ inv.2,
+      search (rules, kept),
       search rules,
     )
 
