@@ -5,7 +5,7 @@ use Rattle.std.specs.Iterator.{Yields}
 use Rattle.std.proofs.lemmas.List.{drop_more}
 use Rattle.std.proofs.lemmas.Iterator.{YieldsList}
 use Rattle.std.proofs.lemmas.Iterator.Consumers.{YieldsList-end, YieldsList-turn}
-use Rattle.roster.specs.Entries.{PostLine, begins_with, behind_colon, parted, pieces, post_line}
+use Rattle.roster.specs.Entries.{begins_with, behind_colon, parted, pieces, post_line}
 
 -- More than two pieces are no post line.
 parted_many : (ps : List (List ℕ)) → 2 < length ps → parted ps ≡ None

@@ -1,9 +1,10 @@
 -- A post line is its entries, written out.
-use Rattle.std.proofs.Common.{◌≡◌, ℕ, suc, ◌+◌, ◌<◌, ◌≤◌, Bool, true, false, cond, eqb, List, [], ◌∷◌, ◌++◌, length, take, drop, Some, None, codes, sym, refl, ap, ◌∙◌, subst, append_assoc, arith}
+use Rattle.std.proofs.Common.{◌≡◌, ℕ, suc, ◌+◌, ◌<◌, ◌≤◌, Bool, true, false, cond, eqb, List, [], ◌∷◌, ◌++◌, map, length, take, drop, Some, None, codes, sym, refl, ap, ◌∙◌, subst, append_assoc, arith}
 use Rattle.std.proofs.lemmas.Slice.Eq.{bytes_eq-Decides}
-use Rattle.std.proofs.lemmas.List.{append-nil, length_push, take-append-drop}
+use Rattle.std.proofs.lemmas.List.{append-nil, length_push, map-append, take-append-drop}
 use Rattle.std.proofs.lemmas.List.Splits.{length-slice_split, join_with_byte-slice_split}
-use Rattle.std.specs.List.{join_with_byte}
+use Rattle.std.proofs.lemmas.List.Elements.{filter-append}
+use Rattle.std.specs.List.{AllByRecursion, filter, join_with_byte}
 use Rattle.std.proofs.lemmas.Bool.{eq-eqb, eqb-true, ne_eqb}
 use Rattle.roster.specs.Entries.{Entries, Owned, PostLine, after_post, begins_with, parted, pieces, post_line, with_line, with_post, with_signal, with_signals}
 use Rattle.roster.specs.Written.{behind, lines_from, owned_names, post_text, written}
@@ -51,8 +52,7 @@ line_written bs p e = go (begins_with (codes "post ") bs) refl e
 
 -- The owners are at most k.
 abbrev pub Below : ℕ → List Owned → Type 0
-Below k [] = Unit {0}
-Below k (s ∷ ss) = (s.owner ≤ k) × Below k ss
+Below k ss = AllByRecursion (λ s. s.owner ≤ k) ss
 
 below_more : (k : ℕ) (ss : List Owned) → Below k ss → Below (suc k) ss
 below_more k [] h = tt
@@ -64,8 +64,7 @@ below_append k (s ∷ ss) ts h i = (h.0, below_append k ss ts h.1 i)
 
 -- Signals of post k.
 abbrev of_post : ℕ → List (List ℕ) → List Owned
-of_post k [] = []
-of_post k (n ∷ ns) = record { name = n; owner = k } ∷ of_post k ns
+of_post k ns = map (λ n. record { name = n; owner = k }) ns
 
 below_post : (k : ℕ) (ns : List (List ℕ)) → Below k (of_post k ns)
 below_post k [] = tt
@@ -77,29 +76,33 @@ signals_added e (n ∷ ns) =
     signals_added (with_signal e n) ns
     ∙ ap (λ z. record { posts = e.posts; signals = z }) (append_assoc e.signals (record { name = n; owner = length e.posts } ∷ []) (of_post (length e.posts) ns))
 
+abbrev name_of : Owned → List ℕ
+name_of s = s.name
+
 names_append : (k : ℕ) (ss ts : List Owned) → owned_names k (ss ++ ts) ≡ owned_names k ss ++ owned_names k ts
-names_append k [] ts = refl
-names_append k (s ∷ ss) ts = go (eqb s.owner k) (names_append k ss ts)
-  where
-    go : (t : Bool) → owned_names k (ss ++ ts) ≡ owned_names k ss ++ owned_names k ts → cond t (s.name ∷ owned_names k (ss ++ ts)) (owned_names k (ss ++ ts)) ≡ cond t (s.name ∷ owned_names k ss) (owned_names k ss) ++ owned_names k ts
-    go true h = ap (λ z. s.name ∷ z) h
-    go false h = h
+names_append k ss ts =
+    ap (map name_of) (filter-append (λ s. eqb s.owner k) ss ts)
+    ∙ map-append name_of (filter (λ s. eqb s.owner k) ss) (filter (λ s. eqb s.owner k) ts)
+
+-- One signal more in front, of post k or not.
+names_cons : (k : ℕ) (s : Owned) (ss : List Owned) (t : Bool) → eqb s.owner k ≡ t → owned_names k (s ∷ ss) ≡ cond t (s.name ∷ owned_names k ss) (owned_names k ss)
+names_cons k s ss true e = ap (λ u. map name_of (cond u (s ∷ filter (λ r. eqb r.owner k) ss) (filter (λ r. eqb r.owner k) ss))) e
+names_cons k s ss false e = ap (λ u. map name_of (cond u (s ∷ filter (λ r. eqb r.owner k) ss) (filter (λ r. eqb r.owner k) ss))) e
 
 names_none : (k j : ℕ) (ss : List Owned) → Below k ss → k < j → owned_names j ss ≡ []
 names_none k j [] h l = refl
 names_none k j (s ∷ ss) h l =
-    let a = h.0 in
-    ap (λ t. cond t (s.name ∷ owned_names j ss) (owned_names j ss)) (ne_eqb s.owner j (λ e. omega arith)) ∙ names_none k j ss h.1 l
+    let a = h.0 in names_cons j s ss false (ne_eqb s.owner j (λ e. omega arith)) ∙ names_none k j ss h.1 l
 
 names_all : (k : ℕ) (ns : List (List ℕ)) → owned_names k (of_post k ns) ≡ ns
 names_all k [] = refl
 names_all k (n ∷ ns) =
-    ap (λ t. cond t (n ∷ owned_names k (of_post k ns)) (owned_names k (of_post k ns))) (eq-eqb k k refl) ∙ ap (λ z. n ∷ z) (names_all k ns)
+    names_cons k (record { name = n; owner = k }) (of_post k ns) true (eq-eqb k k refl) ∙ ap (λ z. n ∷ z) (names_all k ns)
 
 names_other : (k j : ℕ) (ns : List (List ℕ)) → j < k → owned_names j (of_post k ns) ≡ []
 names_other k j [] l = refl
 names_other k j (n ∷ ns) l =
-    ap (λ t. cond t (n ∷ owned_names j (of_post k ns)) (owned_names j (of_post k ns))) (ne_eqb k j (λ e. omega arith)) ∙ names_other k j ns l
+    names_cons j (record { name = n; owner = k }) (of_post k ns) false (ne_eqb k j (λ e. omega arith)) ∙ names_other k j ns l
 
 -- Signals of a later post leave the lines before as they were, and one post more is one line more.
 lines_more : (ss : List Owned) (k m : ℕ) (ns new : List (List ℕ)) (n : List ℕ) → Below m ss → k + length ns ≡ suc m → lines_from (ss ++ of_post (suc m) new) k (ns ++ n ∷ []) ≡ lines_from ss k ns ++ post_text n new ∷ []
@@ -112,8 +115,8 @@ lines_more ss k m [] new n b e =
     ∙ names_all (suc m) new)
 lines_more ss k m (x ∷ ns) new n b e =
     let first : owned_names k (ss ++ of_post (suc m) new) ≡ owned_names k ss = names_append k ss (of_post (suc m) new) ∙ ap (λ z. owned_names k ss ++ z) (names_other (suc m) k new (omega arith)) ∙ append-nil (owned_names k ss) in
-    ap (λ z. post_text x z ∷ lines_from (ss ++ of_post (suc m) new) (suc k) (ns ++ n ∷ [])) first
-    ∙ ap (λ z. post_text x (owned_names k ss) ∷ z) (lines_more ss (suc k) m ns new n b (omega arith))
+    ap (λ z. post_text x z ∷ lines_from (ss ++ of_post (suc m) new) (k + 1) (ns ++ n ∷ [])) first
+    ∙ ap (λ z. post_text x (owned_names k ss) ∷ z) (lines_more ss (k + 1) m ns new n b (omega arith))
 
 -- The entries say the lines.
 pub record Says (e : Entries) (ls : List (List ℕ)) : Type 0 where

@@ -1,8 +1,8 @@
 -- The words of a text, piece by piece.
-use Rattle.std.proofs.Common.{◌≡◌, ℕ, zero, suc, ◌+◌, ◌-◌, ◌≤◌, true, false, cond, eqb, List, [], ◌∷◌, ◌++◌, length, get_or, take, drop, Some, None, Option, sym, refl, ap, ◌∙◌, subst, append_assoc, arith}
+use Rattle.std.proofs.Common.{◌≡◌, ℕ, zero, suc, ◌+◌, ◌-◌, ◌≤◌, true, false, eqb, List, [], ◌∷◌, ◌++◌, length, get_or, take, drop, Some, None, Option, sym, refl, ap, ◌∙◌, subst, append_assoc, arith}
 use Rattle.std.proofs.lemmas.List.{take_rest}
 use Rattle.std.proofs.lemmas.Bool.{both_ways, cond_both, cond-false, cond-true, eqb-true, ne_eqb}
-use Rattle.std.specs.List.{find, prefix_len, take_while}
+use Rattle.std.specs.List.{AllByRecursion, find, prefix_len, take_while}
 use Rattle.std.specs.Option.{option_map}
 use Rattle.words.specs.Names.{name_byte}
 use Rattle.words.specs.Texts.{arrow, before, goes, piece_of, sign, signs, words_from}
@@ -12,8 +12,7 @@ use Rattle.words.specs.declared.word.Word.TheVariants.{Infix}
 
 -- What holds of each entry of a list holds of what is listed there.
 abbrev Each : (ℕ → Word → Type 0) → List (ℕ × Word) → Type 0
-Each P [] = Unit {0}
-Each P (x ∷ xs) = P x.0 x.1 × Each P xs
+Each P xs = AllByRecursion (λ x. P x.0 x.1) xs
 
 each_listed : (P : ℕ → Word → Type 0) (b : ℕ) (v : Word) (xs : List (ℕ × Word)) → Each P xs → option_map (λ x. x.1) (find (λ x. eqb b x.0) xs) ≡ Some v → P b v
 each_listed P b v [] h = λ e. let z : ◌≡◌ {A = ℕ} 0 1 = cc in absurd (omega arith)
@@ -74,6 +73,21 @@ module _ (w : List ℕ → Word) where
       ap (λ z. before (ws ++ v ∷ []) (words_from w 0 z)) (take_rest (b ∷ bs) 1)
       ∙ before_more ws v (words_from w 0 bs)
       ∙ ap (before ws) (sym (sign_begins b v s bs))
+
+  -- A byte that is in no word.
+  pub cut_foreign : (ws : List Word) (bs : List ℕ) → 1 ≤ length bs → (get_or bs 0 0 ≡ 32 → ⊥) → name_byte (get_or bs 0 0) ≡ false → sign (get_or bs 0 0) ≡ None → (2 ≤ length bs → get_or bs 0 0 ≡ 45 → get_or bs 1 0 ≡ 62 → ⊥) → before ws (words_from w 0 bs) ≡ None
+  cut_foreign ws [] l s n g a = absurd (omega arith)
+  cut_foreign ws (b ∷ bs) l s n g a =
+      ap (before ws) (cond-false (eqb b 32) (words_from w 0 bs) _ (ne_eqb b 32 s) ∙ ap (λ p. goes p (λ m. words_from w m bs)) foreign)
+    where
+      no_arrow : (cs : List ℕ) → (1 ≤ length cs → b ≡ 45 → get_or cs 0 0 ≡ 62 → ⊥) → eqb b 45 ≡ true → arrow cs ≡ None
+      no_arrow [] h t = refl
+      no_arrow (c ∷ cs) h t = cond-false (eqb c 62) (Some (Infix Implies, 1)) None (ne_eqb c 62 (h (omega arith) (eqb-true b 45 t)))
+
+      foreign : piece_of w b bs ≡ None
+      foreign =
+          cond_both (eqb b 45) (arrow bs) _ (λ p. p ≡ None) (no_arrow bs (λ k. a (omega arith)))
+          (λ t. cond-false (name_byte b) _ (option_map (λ v. (v, 0)) (sign b)) n ∙ ap (option_map (λ v. (v, 0))) g)
 
   -- A run has a byte.
   pub run_some : (bs : List ℕ) → 1 ≤ length bs → name_byte (get_or bs 0 0) ≡ true → 1 ≤ prefix_len name_byte bs

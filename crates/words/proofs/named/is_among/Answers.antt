@@ -1,4 +1,4 @@
-use Rattle.std.proofs.Common.{map, is_some, ap, rules}
+use Rattle.std.proofs.Common.{map, is_some, ap}
 use Rattle.words.proofs.Places.{among_is}
 use Rattle.words.proofs.named.is_among.Goals as goal
 

@@ -1,10 +1,9 @@
-use Rattle.std.proofs.Common.{◌≡◌, true, false, leb, map, length, vec_items, Some, arith, rules}
-use Rattle.std.proofs.lemmas.List.{length-map}
-use Rattle.std.proofs.lemmas.Bool.{le-leb, lt-leb}
+use Rattle.std.proofs.Common.{◌≡◌, vec_items, Some, arith, rules}
 use Rattle.roster.specs.Entries.{after_post, post_holds, post_line, signals_holds, with_signals}
 use Rattle.roster.specs.Parts.{line_of}
-use Rattle.roster.specs.Rosters.{Judged, entries, post_name}
-use Rattle.roster.proofs.Judging.{judged_as, judged_exit, ninth, post_breaks, post_joins, post_passes}
+use Rattle.roster.specs.Rosters.{entries, post_name}
+use Rattle.roster.proofs.Growing.{stays_below}
+use Rattle.roster.proofs.Judging.{judged_as, judged_exit, post_breaks, post_joins, post_passes}
 use Rattle.roster.proofs.roster.Roster.read_post.Goals as goal
 
 pub returns-in_err-add_post : goal.returns-in_err-add_post
@@ -13,8 +12,7 @@ returns-in_err-add_post c =
     let ps = vec_items c.args.self.now.posts in
     let p = line_of c.in_ok-post.post in
     let formed : post_line c.args.text.now ≡ Some p = search rules in
-    let room : leb 8 (length (map post_name ps)) ≡ false =
-    lt-leb 8 (length (map post_name ps)) (omega (arith, length-map ps post_name, c.args.self.now.posts.ok.0, c.len.ensures)) in
+    let room = stays_below post_name ps 8 (omega (arith, c.args.self.now.posts.ok.0, c.len.ensures)) in
     let held = post_breaks e c.args.ruled c.args.line c.args.text.now p c.if-not-are_line_bytes.ensures formed c.if-ruled.false room _ c.in_err-add_post.ensures in
     judged_exit (post_holds e c.args.ruled c.args.line c.args.text.now) (after_post e c.args.text.now) (entries c.add_post.new.self) _ _ c.from_residual-in_err-add_post.ensures.1 held
 
@@ -25,8 +23,7 @@ returns c =
     let p = line_of c.in_ok-post.post in
     let d = entries c.add_post.new.self in
     let formed : post_line c.args.text.now ≡ Some p = search rules in
-    let room : leb 8 (length (map post_name ps)) ≡ false =
-    lt-leb 8 (length (map post_name ps)) (omega (arith, length-map ps post_name, c.args.self.now.posts.ok.0, c.len.ensures)) in
+    let room = stays_below post_name ps 8 (omega (arith, c.args.self.now.posts.ok.0, c.len.ensures)) in
     let added = c.in_ok-add_post.ensures in
     let passes = post_passes e c.args.ruled c.args.line c.args.text.now p c.if-not-are_line_bytes.ensures formed c.if-ruled.false room d added.0 added.1 in
     let joins = post_joins e c.args.ruled c.args.line c.args.text.now p c.if-not-are_line_bytes.ensures formed c.if-ruled.false d added.1 in
