@@ -1,16 +1,15 @@
 -- What has names, in the place of the names.
-use Rattle.std.proofs.Common.{◌≡◌, ℕ, suc, ◌+◌, Bool, true, false, cond, not, ◌||◌, ltb, List, [], ◌∷◌, map, length, is_some, Some, None, codes, sym, refl, ap, ◌∙◌, arith}
+use Rattle.std.proofs.Common.{◌≡◌, ℕ, suc, ◌+◌, Bool, true, false, cond, not, ◌||◌, ltb, List, [], ◌∷◌, map, length, is_some, Some, None, sym, refl, ap, ◌∙◌, arith}
 use lib.Dec.{leb-suc-suc}
 use Rattle.std.proofs.lemmas.Bool.{cond_both, lt-ltb, ltb-false}
 use Rattle.std.proofs.lemmas.List.{length-map}
 use Rattle.std.proofs.lemmas.List.Sums.{prefix_len-le-length}
 use Rattle.std.specs.List.{list_any, position, position_or_len}
-use Rattle.std.specs.Option.{unwrap_or}
+use Rattle.std.specs.Option.{option_map, unwrap_or}
 use Rattle.std.specs.Str.{bytes_eq}
 use Rattle.words.specs.Names.{among, is_name, place_of}
 use Rattle.words.specs.Texts.{constant_of, word_of}
 use Rattle.words.specs.declared.word.Leaf.TheVariants.{Const, Signal}
-use Rattle.words.specs.declared.word.Word.{Word}
 use Rattle.words.specs.declared.word.Word.TheVariants.{Atom, Stray}
 
 module _ {X : Type 0} (p : X → Bool) where
@@ -57,9 +56,4 @@ pub word_named : {X : Type 0} (f : X → List ℕ) (xs : List X) (bs : List ℕ)
 word_named f xs bs c n =
     ap (λ k. Atom (Signal k)) (ap (unwrap_or (position (λ y. bytes_eq bs y) (map f xs))) (sym (length-map xs f)) ∙ position_or (λ y. bytes_eq bs y) (map f xs))
     ∙ ap (λ b. cond b (Atom (Signal (place_of bs (map f xs)))) Stray) (sym n)
-    ∙ none (bytes_eq bs (codes "true")) (bytes_eq bs (codes "false")) c _
-  where
-    none : (s t : Bool) → cond s (Some true) (cond t (Some false) None) ≡ None → (v : Word) → v ≡ cond s (Atom (Const true)) (cond t (Atom (Const false)) v)
-    none true t e v = let z : ◌≡◌ {A = ℕ} 0 1 = cc in absurd (omega arith)
-    none false true e v = let z : ◌≡◌ {A = ℕ} 0 1 = cc in absurd (omega arith)
-    none false false e v = refl
+    ∙ ap (λ o. unwrap_or (option_map (λ b. Atom (Const b)) o) (cond (is_name bs) (Atom (Signal (place_of bs (map f xs)))) Stray)) (sym c)

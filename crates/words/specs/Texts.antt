@@ -1,7 +1,7 @@
 -- The words of a text, from the left.
 use Rattle.std.specs.Prelude.{ℕ, zero, suc, Bool, true, false, cond, List, [], ◌∷◌, ◌++◌, Some, None, codes, Option, ◌==◌}
 use Rattle.std.specs.List.{find, prefix_len, take_while}
-use Rattle.std.specs.Option.{option_map}
+use Rattle.std.specs.Option.{option_map, unwrap_or}
 use Rattle.std.specs.Str.{bytes_eq}
 use Rattle.parts.specs.declared.part.Unary.TheVariants.{Not, Next, Finally, Globally}
 use Rattle.words.specs.Names.{is_name, name_byte, place_of}
@@ -19,15 +19,14 @@ signs =
 abbrev pub sign : ℕ → Option Word
 sign b = option_map (λ x. x.1) (find (λ x. b == x.0) signs)
 
+-- The constant that a run of name bytes is, if it is one.
 abbrev pub constant_of : List ℕ → Option Bool
 constant_of bs = cond (bytes_eq bs (codes "true")) (Some true) (cond (bytes_eq bs (codes "false")) (Some false) None)
 
 -- What a run of name bytes is, where the signals have these names: a constant, a signal by its number, or no name.
 abbrev pub word_of : List (List ℕ) → List ℕ → Word
 word_of names bs =
-    cond (bytes_eq bs (codes "true")) (Atom (Const true))
-    (cond (bytes_eq bs (codes "false")) (Atom (Const false))
-    (cond (is_name bs) (Atom (Signal (place_of bs names))) Stray))
+    unwrap_or (option_map (λ b. Atom (Const b)) (constant_of bs)) (cond (is_name bs) (Atom (Signal (place_of bs names))) Stray)
 
 -- A dash is the first half of `->`, or in no word.
 abbrev pub arrow : List ℕ → Option (Word × ℕ)
