@@ -1,6 +1,7 @@
 -- Entries that grow.
-use Rattle.std.proofs.Common.{◌≡◌, ℕ, Bool, cond, List, [], ◌∷◌, ◌++◌, map, Some, None, ap, ◌∙◌}
-use Rattle.std.proofs.lemmas.List.{map-append}
+use Rattle.std.proofs.Common.{◌≡◌, ℕ, ◌<◌, ◌≤◌, Bool, true, false, cond, leb, List, [], ◌∷◌, ◌++◌, map, length, Some, None, ap, ◌∙◌, arith}
+use Rattle.std.proofs.lemmas.List.{length-map, map-append}
+use Rattle.std.proofs.lemmas.Bool.{le-leb, lt-leb}
 use Rattle.holds.specs.Cases.{Hold, Cases, first_case}
 use Rattle.holds.proofs.Cases.{past_fits}
 use Rattle.roster.specs.Entries.{Entries, Owned, with_post}
@@ -19,3 +20,10 @@ signal_more ps ss rs s t k e h =
 -- One test more.
 pub then_test : (ts : Cases Hold) (h : Hold) (b c : Bool) → first_case ts ≡ None → b ≡ c → first_case (ts ++ (h, b) ∷ []) ≡ cond c (Some h) None
 then_test ts h b c e q = past_fits ts ((h, b) ∷ []) e ∙ ap (λ x. cond x (Some h) None) q
+
+-- Whether what is listed of some things reaches a number.
+pub reaches : {X Y : Type 0} (f : X → Y) (xs : List X) (n : ℕ) → n ≤ length xs → leb n (length (map f xs)) ≡ true
+reaches f xs n l = le-leb n (length (map f xs)) (omega (arith, length-map xs f))
+
+pub stays_below : {X Y : Type 0} (f : X → Y) (xs : List X) (n : ℕ) → length xs < n → leb n (length (map f xs)) ≡ false
+stays_below f xs n l = lt-leb n (length (map f xs)) (omega (arith, length-map xs f))

@@ -3,7 +3,7 @@ use Rattle.std.proofs.Common.{◌≡◌, ℕ, Bool, true, false, cond, not, ◌|
 use Rattle.std.proofs.lemmas.Result.{err_from_is_err_and}
 use Rattle.holds.specs.Cases.{Hold, Cases, first_case, on_line}
 use Rattle.holds.proofs.Cases.{front_fits, past_fits}
-use Rattle.words.specs.Names.{every}
+use Rattle.std.specs.List.{list_all}
 use Rattle.roster.specs.Entries.{Entries, PostLine, after_post, line_byte, name_holds, names_holds, post_line, post_holds, signal_holds, signals_holds, with_line, with_post, with_signal, with_signals}
 use Rattle.roster.specs.Faults.{answered}
 use Rattle.roster.specs.Rosters.{Judged}
@@ -39,7 +39,7 @@ module _ (e : Entries) (l : ℕ) (ps : List (List ℕ)) (n : List ℕ) (ns : Lis
   signal_joins d s = ap (with_signals e) split ∙ ap (λ z. with_signals z ns) (sym s)
 
 -- A post line of good form that is not the ninth: its names decide.
-module _ (e : Entries) (ruled : Bool) (l : ℕ) (bs : List ℕ) (p : PostLine) (good : true ≡ every line_byte bs) (formed : post_line bs ≡ Some p) (early : ruled ≡ false) where
+module _ (e : Entries) (ruled : Bool) (l : ℕ) (bs : List ℕ) (p : PostLine) (good : true ≡ list_all line_byte bs) (formed : post_line bs ≡ Some p) (early : ruled ≡ false) where
   first_two : (b : Bool) → leb 8 (length e.posts) ≡ b → first_case (post_holds e ruled l bs) ≡ cond b (Some (on_line 4 l)) (first_case (names_holds e l (Some p)))
   first_two b h =
       ap (λ t. first_case ((on_line 2 l, not t) ∷ (on_line 3 l, not (is_some (post_line bs)) || ruled) ∷ (on_line 4 l, leb 8 (length e.posts)) ∷ names_holds e l (post_line bs))) (sym good)

@@ -2,5 +2,4 @@ pub mod Standing
 pub mod Judging
 pub mod Growing
 pub mod Pieces
-pub mod Colons
 pub mod Writing

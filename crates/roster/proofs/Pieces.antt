@@ -1,76 +1,60 @@
--- Texts in pieces.
-use Rattle.std.proofs.Common.{◌≡◌, ℕ, suc, ◌+◌, ◌-◌, ◌<◌, ◌≤◌, Bool, true, false, cond, not, eqb, List, [], ◌∷◌, length, take, drop, sym, refl, ap, ◌∙◌, ⊎_elim, arith}
-use Rattle.std.proofs.lemmas.Slice.Eq.{bytes_eq-Decides}
-use Rattle.std.proofs.lemmas.List.{drop-drop, length-drop, length-take, take_all}
-use Rattle.std.proofs.lemmas.Bool.{cases_lt}
-use Rattle.words.specs.Texts.{front}
-use Rattle.roster.specs.Entries.{onto, pieces, begins_with}
+-- The pieces of a post line.
+use Rattle.std.proofs.Common.{◌≡◌, ℕ, ◌+◌, ◌<◌, Bool, true, false, cond, ◌&&◌, eqb, List, [], ◌∷◌, length, get_or, take, drop, is_some, Some, None, codes, Option, Bor, sym, refl, ap, ◌∙◌, subst, arith}
+use Rattle.std.specs.Cmp.Lexicographic.{pointwise}
+use Rattle.std.specs.Iterator.{Yields}
+use Rattle.std.proofs.lemmas.List.{drop_more}
+use Rattle.std.proofs.lemmas.Iterator.{YieldsList}
+use Rattle.std.proofs.lemmas.Iterator.Consumers.{YieldsList-end, YieldsList-turn}
+use Rattle.roster.specs.Entries.{begins_with, behind_colon, parted, pieces, post_line}
 
--- A text that is too short does not begin so.
-pub too_short : (p bs : List ℕ) → length bs < length p → begins_with p bs ≡ false
-too_short p bs l = go (begins_with p bs) refl
-  where
-    go : (b : Bool) → begins_with p bs ≡ b → b ≡ false
-    go true e =
-        let same = (bytes_eq-Decides (take (length p) bs) p).0 e in
-        let a = ap length same in
-        let b = length-take (length p) bs in
-        absurd (omega arith)
-    go false e = refl
+-- More than two pieces are no post line.
+parted_many : (ps : List (List ℕ)) → 2 < length ps → parted ps ≡ None
+parted_many [] l = absurd (omega arith)
+parted_many (x ∷ []) l = absurd (omega arith)
+parted_many (x ∷ (y ∷ [])) l = absurd (omega arith)
+parted_many (x ∷ (y ∷ (z ∷ ps))) l = refl
 
--- No such byte: the text is its one piece.
-abbrev other : ℕ → ℕ → Bool
-other b c = not (eqb c b)
+-- Behind the colon stands a space, or not.
+and_yes : (t : Bool) → (t && true) ≡ t
+and_yes true = refl
+and_yes false = refl
 
-pub one_piece : (b : ℕ) (bs : List ℕ) → length bs ≤ front (other b) bs → pieces b bs ≡ bs ∷ []
-one_piece b [] l = refl
-one_piece b (c ∷ cs) l = go (eqb c b) l (one_piece b cs)
-  where
-    go : (t : Bool) → suc (length cs) ≤ cond (not t) (suc (front (other b) cs)) 0 → (length cs ≤ front (other b) cs → pieces b cs ≡ cs ∷ []) → cond t ([] ∷ pieces b cs) (onto c (pieces b cs)) ≡ (c ∷ cs) ∷ []
-    go true m h = absurd (omega arith)
-    go false m h = ap (onto c) (h (omega arith))
+behind_test : (x y : List ℕ) (t : Bool) → pointwise eqb (take 1 y) (32 ∷ []) ≡ t → behind_colon x y ≡ cond t (Some (record { name = x; signals = pieces 32 (drop 1 y) })) None
+behind_test x [] t e = ap (λ b. cond b (Some (record { name = x; signals = pieces 32 [] })) None) e
+behind_test x (b ∷ bs) t e =
+    ap (λ u. cond u (Some (record { name = x; signals = pieces 32 bs })) None) (sym (and_yes (eqb b 32)) ∙ e)
 
--- The first such byte ends the first piece.
-pub first_piece : (b : ℕ) (bs : List ℕ) → front (other b) bs < length bs → pieces b bs ≡ take (front (other b) bs) bs ∷ pieces b (drop (suc (front (other b) bs)) bs)
-first_piece b [] l = absurd (omega arith)
-first_piece b (c ∷ cs) l = go (eqb c b) l (first_piece b cs)
-  where
-    go : (t : Bool) → cond (not t) (suc (front (other b) cs)) 0 < suc (length cs) → (front (other b) cs < length cs → pieces b cs ≡ take (front (other b) cs) cs ∷ pieces b (drop (suc (front (other b) cs)) cs)) → cond t ([] ∷ pieces b cs) (onto c (pieces b cs)) ≡ take (cond (not t) (suc (front (other b) cs)) 0) (c ∷ cs) ∷ pieces b (drop (cond (not t) (suc (front (other b) cs)) 0) cs)
-    go true m h = refl
-    go false m h = ap (onto c) (h (omega arith))
+-- The pieces of a line that begins with `post` and a space, as they come.
+line_is : (text : List ℕ) → begins_with (codes "post ") text ≡ true → post_line text ≡ parted (pieces 58 (drop 5 text))
+line_is text begun = ap (λ t. cond t (parted (pieces 58 (drop 5 text))) None) begun
 
--- There is always a piece.
-some_onto : (c : ℕ) (ps : List (List ℕ)) → (p : List ℕ) × (qs : List (List ℕ)) × (onto c ps ≡ p ∷ qs)
-some_onto c [] = (c ∷ [], [], refl)
-some_onto c (p ∷ ps) = (c ∷ p, ps, refl)
+module _ {S : Type 0} (steps : S → Option (Bor (List ℕ)) → S → Type 0) (text : List ℕ) (begun : begins_with (codes "post ") text ≡ true) (s : S) where
+  module _ (a : Bor (List ℕ)) (p : Option (Bor (List ℕ))) (t : S) (f : steps s p t) (is_a : p ≡ Some a) where
+    first : Yields steps s (a ∷ []) t
+    first = (t, subst (λ o. steps s o t) is_a f, refl)
 
-pub some_piece : (b : ℕ) (bs : List ℕ) → (p : List ℕ) × (ps : List (List ℕ)) × (pieces b bs ≡ p ∷ ps)
-some_piece b [] = ([], [], refl)
-some_piece b (c ∷ cs) = go (eqb c b)
-  where
-    go : (t : Bool) → (p : List ℕ) × (ps : List (List ℕ)) × (cond t ([] ∷ pieces b cs) (onto c (pieces b cs)) ≡ p ∷ ps)
-    go true = ([], pieces b cs, refl)
-    go false = some_onto c (pieces b cs)
+    pub one_piece : (q : Option (Bor (List ℕ))) (u : S) → steps t q u → q ≡ None → YieldsList steps (λ x. x.now) s (pieces 58 (drop 5 text)) → post_line text ≡ None
+    one_piece q u g h e = line_is text begun ∙ ap parted (sym (YieldsList-end e (a ∷ []) t first q u h g).0)
 
--- The piece that begins at i, where the next such byte stands at e.
-module _ (b : ℕ) (bs : List ℕ) (i e : ℕ) (within : i ≤ length bs) (found : e ≡ i + front (other b) (drop i bs)) where
-  size : front (other b) (drop i bs) ≡ e - i
-  size = omega arith
+    module _ (b : Bor (List ℕ)) (q : Option (Bor (List ℕ))) (u : S) (g : steps t q u) (is_b : q ≡ Some b) where
+      second : Yields steps s (a ∷ (b ∷ [])) u
+      second = (t, subst (λ o. steps s o t) is_a f, (u, subst (λ o. steps t o u) is_b g, refl))
 
-  pub next_piece : e < length bs → pieces b (drop i bs) ≡ take (e - i) (drop i bs) ∷ pieces b (drop (e + 1) bs)
-  next_piece l =
-      let n = length-drop i bs in
-      let s : i + suc (front (other b) (drop i bs)) ≡ e + 1 = omega arith in
-      first_piece b (drop i bs) (omega arith)
-      ∙ ap (λ z. take (front (other b) (drop i bs)) (drop i bs) ∷ pieces b z) (drop-drop (suc (front (other b) (drop i bs))) i bs ∙ ap (λ k. drop k bs) s)
-      ∙ ap (λ k. take k (drop i bs) ∷ pieces b (drop (e + 1) bs)) size
+      pub more_pieces : (r : Option (Bor (List ℕ))) (v : S) → steps u r v → is_some r ≡ true → YieldsList steps (λ x. x.now) s (pieces 58 (drop 5 text)) → post_line text ≡ None
+      more_pieces None v h i e = let z : ◌≡◌ {A = ℕ} 0 1 = cc in absurd (omega arith)
+      more_pieces (Some c) v h i e =
+          line_is text begun ∙ parted_many (pieces 58 (drop 5 text)) (YieldsList-turn e (a ∷ (b ∷ [])) u second (Some c) v c refl h).0
 
-  pub last_piece : length bs ≤ e → pieces b (drop i bs) ≡ take (e - i) (drop i bs) ∷ []
-  last_piece l =
-      let n = length-drop i bs in
-      one_piece b (drop i bs) (omega arith) ∙ ap (λ z. z ∷ []) (sym (take_all (e - i) (drop i bs) (omega arith)))
+      two_pieces : (r : Option (Bor (List ℕ))) (v : S) → steps u r v → r ≡ None → YieldsList steps (λ x. x.now) s (pieces 58 (drop 5 text)) → post_line text ≡ parted (a.now ∷ (b.now ∷ []))
+      two_pieces r v h n e = line_is text begun ∙ ap parted (sym (YieldsList-end e (a ∷ (b ∷ [])) u second r v n h).0)
 
-  -- In either case it is the first.
-  pub this_piece : (ps : List (List ℕ)) × (pieces b (drop i bs) ≡ take (e - i) (drop i bs) ∷ ps)
-  this_piece =
-      ⊎_elim (λ l. (pieces b (drop (e + 1) bs), next_piece l)) (λ l. ([], last_piece l)) (cases_lt e (length bs))
+      pub no_space : (r : Option (Bor (List ℕ))) (v : S) → steps u r v → r ≡ None → pointwise eqb (take 1 b.now) (32 ∷ []) ≡ false → YieldsList steps (λ x. x.now) s (pieces 58 (drop 5 text)) → post_line text ≡ None
+      no_space r v h n o e = two_pieces r v h n e ∙ behind_test a.now b.now false o
+
+      pub spaced : (r : Option (Bor (List ℕ))) (v : S) → steps u r v → r ≡ None → pointwise eqb (take 1 b.now) (32 ∷ []) ≡ true → (z : List ℕ) → z ≡ drop 1 b.now → YieldsList steps (λ x. x.now) s (pieces 58 (drop 5 text)) → post_line text ≡ Some (record { name = a.now; signals = pieces 32 z })
+      spaced r v h n o z k e =
+          two_pieces r v h n e ∙ behind_test a.now b.now true o ∙ ap (λ y. Some (record { name = a.now; signals = pieces 32 y })) (sym k)
+
+-- The piece at a place, before those behind it.
+pub piece_here : (ps : List (List ℕ)) (i : ℕ) (p : List ℕ) → i < length ps → p ≡ get_or ps i p → drop i ps ≡ p ∷ drop (i + 1) ps
+piece_here ps i p l e = drop_more ps i p l ∙ ap (λ q. q ∷ drop (i + 1) ps) (sym e)

@@ -1,43 +1,29 @@
 -- A post line is its entries, written out.
-use Rattle.std.proofs.Common.{◌≡◌, ℕ, suc, ◌+◌, ◌<◌, ◌≤◌, Bool, true, false, cond, eqb, List, [], ◌∷◌, ◌++◌, length, take, drop, Some, None, codes, sym, refl, ap, ◌∙◌, subst, append_assoc, arith}
+use Rattle.std.proofs.Common.{◌≡◌, ℕ, suc, ◌+◌, ◌<◌, ◌≤◌, Bool, true, false, cond, eqb, List, [], ◌∷◌, ◌++◌, map, length, take, drop, Some, None, codes, sym, refl, ap, ◌∙◌, subst, append_assoc, arith}
 use Rattle.std.proofs.lemmas.Slice.Eq.{bytes_eq-Decides}
-use Rattle.std.proofs.lemmas.List.{append-nil, length_push, take-append-drop}
+use Rattle.std.proofs.lemmas.List.{append-nil, length_push, map-append, take-append-drop}
+use Rattle.std.proofs.lemmas.List.Splits.{length-slice_split, join_with_byte-slice_split}
+use Rattle.std.proofs.lemmas.List.Elements.{filter-append}
+use Rattle.std.specs.List.{AllByRecursion, filter, join_with_byte}
 use Rattle.std.proofs.lemmas.Bool.{eq-eqb, eqb-true, ne_eqb}
-use Rattle.roster.specs.Entries.{Entries, Owned, PostLine, after_post, begins_with, onto, parted, pieces, post_line, with_line, with_post, with_signal, with_signals}
+use Rattle.roster.specs.Entries.{Entries, Owned, PostLine, after_post, begins_with, parted, pieces, post_line, with_line, with_post, with_signal, with_signals}
 use Rattle.roster.specs.Written.{behind, lines_from, owned_names, post_text, written}
-use Rattle.roster.proofs.Pieces.{some_piece}
 
--- Pieces joined again are the text.
-abbrev whole : ℕ → List (List ℕ) → List ℕ
-whole b [] = []
-whole b (p ∷ ps) = p ++ behind b ps
+-- Pieces, each with the mark before it, are the mark and the text that they part.
+behind_join : (b : ℕ) (ps : List (List ℕ)) → 1 ≤ length ps → behind b ps ≡ b ∷ join_with_byte b ps
+behind_join b [] l = absurd (omega arith)
+behind_join b (p ∷ []) l = ap (λ z. b ∷ z) (append-nil p)
+behind_join b (p ∷ (q ∷ ps)) l = ap (λ z. b ∷ (p ++ z)) (behind_join b (q ∷ ps) (omega arith))
 
-whole_onto : (b c : ℕ) (p : List ℕ) (ps : List (List ℕ)) → whole b (onto c (p ∷ ps)) ≡ c ∷ whole b (p ∷ ps)
-whole_onto b c p ps = refl
-
-joined_again : (b : ℕ) (bs : List ℕ) → whole b (pieces b bs) ≡ bs
-joined_again b [] = refl
-joined_again b (c ∷ cs) = go (eqb c b) refl (joined_again b cs) (some_piece b cs)
-  where
-    go : (t : Bool) → eqb c b ≡ t → whole b (pieces b cs) ≡ cs → ((p : List ℕ) × (ps : List (List ℕ)) × (pieces b cs ≡ p ∷ ps)) → whole b (cond t ([] ∷ pieces b cs) (onto c (pieces b cs))) ≡ c ∷ cs
-    go true e h s =
-        let first = ap (λ z. behind b z) s.2 in
-        let again = sym (ap (whole b) s.2) ∙ h in
-        first ∙ ap (λ z. b ∷ z) again ∙ ap (λ z. z ∷ cs) (sym (eqb-true c b e))
-    go false e h s =
-        let again = sym (ap (whole b) s.2) ∙ h in
-        ap (λ z. whole b (onto c z)) s.2 ∙ ap (λ z. c ∷ z) again
-
--- Each piece with a space before it.
 spaced_again : (bs : List ℕ) → behind 32 (pieces 32 bs) ≡ 32 ∷ bs
 spaced_again bs =
-    let s = some_piece 32 bs in
-    ap (behind 32) s.2 ∙ ap (λ z. 32 ∷ z) (sym (ap (whole 32) s.2) ∙ joined_again 32 bs)
+    let some = length-slice_split (λ c. eqb c 32) bs in
+    behind_join 32 (pieces 32 bs) (omega (arith, some)) ∙ ap (λ z. 32 ∷ z) (join_with_byte-slice_split 32 bs)
 
 no_none : {A : Type 0} {P : Type 0} (x : A) → None ≡ Some x → P
 no_none x e = let z : ◌≡◌ {A = ℕ} 0 1 = cc in absurd (omega arith)
 
-parted_written : (ps : List (List ℕ)) (p : PostLine) → parted ps ≡ Some p → whole 58 ps ≡ p.name ++ (58 ∷ behind 32 p.signals)
+parted_written : (ps : List (List ℕ)) (p : PostLine) → parted ps ≡ Some p → join_with_byte 58 ps ≡ p.name ++ (58 ∷ behind 32 p.signals)
 parted_written [] p e = no_none p e
 parted_written (x ∷ []) p e = no_none p e
 parted_written (x ∷ ([] ∷ [])) p e = no_none p e
@@ -46,10 +32,10 @@ parted_written (x ∷ ((b ∷ bs) ∷ [])) p e = go (eqb b 32) refl e
     q : PostLine
     q = record { name = x; signals = pieces 32 bs }
 
-    go : (t : Bool) → eqb b 32 ≡ t → cond t (Some q) None ≡ Some p → x ++ (58 ∷ ((b ∷ bs) ++ [])) ≡ p.name ++ (58 ∷ behind 32 p.signals)
+    go : (t : Bool) → eqb b 32 ≡ t → cond t (Some q) None ≡ Some p → x ++ (58 ∷ (b ∷ bs)) ≡ p.name ++ (58 ∷ behind 32 p.signals)
     go true i h =
         let same : q ≡ p = cc in
-        ap (λ z. x ++ (58 ∷ z)) (append-nil (b ∷ bs) ∙ ap (λ z. z ∷ bs) (eqb-true b 32 i) ∙ sym (spaced_again bs))
+        ap (λ z. x ++ (58 ∷ z)) (ap (λ z. z ∷ bs) (eqb-true b 32 i) ∙ sym (spaced_again bs))
         ∙ ap (λ z. z.name ++ (58 ∷ behind 32 z.signals)) same
     go false i h = no_none p h
 parted_written (x ∷ (y ∷ (z ∷ ps))) p e = no_none p e
@@ -61,13 +47,12 @@ line_written bs p e = go (begins_with (codes "post ") bs) refl e
     go true b h =
         sym (take-append-drop 5 bs)
         ∙ ap (λ z. z ++ drop 5 bs) ((bytes_eq-Decides (take 5 bs) (codes "post ")).0 b)
-        ∙ ap (λ z. codes "post " ++ z) (sym (joined_again 58 (drop 5 bs)) ∙ parted_written (pieces 58 (drop 5 bs)) p h)
+        ∙ ap (λ z. codes "post " ++ z) (sym (join_with_byte-slice_split 58 (drop 5 bs)) ∙ parted_written (pieces 58 (drop 5 bs)) p h)
     go false b h = no_none p h
 
 -- The owners are at most k.
 abbrev pub Below : ℕ → List Owned → Type 0
-Below k [] = Unit {0}
-Below k (s ∷ ss) = (s.owner ≤ k) × Below k ss
+Below k ss = AllByRecursion (λ s. s.owner ≤ k) ss
 
 below_more : (k : ℕ) (ss : List Owned) → Below k ss → Below (suc k) ss
 below_more k [] h = tt
@@ -79,8 +64,7 @@ below_append k (s ∷ ss) ts h i = (h.0, below_append k ss ts h.1 i)
 
 -- Signals of post k.
 abbrev of_post : ℕ → List (List ℕ) → List Owned
-of_post k [] = []
-of_post k (n ∷ ns) = record { name = n; owner = k } ∷ of_post k ns
+of_post k ns = map (λ n. record { name = n; owner = k }) ns
 
 below_post : (k : ℕ) (ns : List (List ℕ)) → Below k (of_post k ns)
 below_post k [] = tt
@@ -92,29 +76,33 @@ signals_added e (n ∷ ns) =
     signals_added (with_signal e n) ns
     ∙ ap (λ z. record { posts = e.posts; signals = z }) (append_assoc e.signals (record { name = n; owner = length e.posts } ∷ []) (of_post (length e.posts) ns))
 
+abbrev name_of : Owned → List ℕ
+name_of s = s.name
+
 names_append : (k : ℕ) (ss ts : List Owned) → owned_names k (ss ++ ts) ≡ owned_names k ss ++ owned_names k ts
-names_append k [] ts = refl
-names_append k (s ∷ ss) ts = go (eqb s.owner k) (names_append k ss ts)
-  where
-    go : (t : Bool) → owned_names k (ss ++ ts) ≡ owned_names k ss ++ owned_names k ts → cond t (s.name ∷ owned_names k (ss ++ ts)) (owned_names k (ss ++ ts)) ≡ cond t (s.name ∷ owned_names k ss) (owned_names k ss) ++ owned_names k ts
-    go true h = ap (λ z. s.name ∷ z) h
-    go false h = h
+names_append k ss ts =
+    ap (map name_of) (filter-append (λ s. eqb s.owner k) ss ts)
+    ∙ map-append name_of (filter (λ s. eqb s.owner k) ss) (filter (λ s. eqb s.owner k) ts)
+
+-- One signal more in front, of post k or not.
+names_cons : (k : ℕ) (s : Owned) (ss : List Owned) (t : Bool) → eqb s.owner k ≡ t → owned_names k (s ∷ ss) ≡ cond t (s.name ∷ owned_names k ss) (owned_names k ss)
+names_cons k s ss true e = ap (λ u. map name_of (cond u (s ∷ filter (λ r. eqb r.owner k) ss) (filter (λ r. eqb r.owner k) ss))) e
+names_cons k s ss false e = ap (λ u. map name_of (cond u (s ∷ filter (λ r. eqb r.owner k) ss) (filter (λ r. eqb r.owner k) ss))) e
 
 names_none : (k j : ℕ) (ss : List Owned) → Below k ss → k < j → owned_names j ss ≡ []
 names_none k j [] h l = refl
 names_none k j (s ∷ ss) h l =
-    let a = h.0 in
-    ap (λ t. cond t (s.name ∷ owned_names j ss) (owned_names j ss)) (ne_eqb s.owner j (λ e. omega arith)) ∙ names_none k j ss h.1 l
+    let a = h.0 in names_cons j s ss false (ne_eqb s.owner j (λ e. omega arith)) ∙ names_none k j ss h.1 l
 
 names_all : (k : ℕ) (ns : List (List ℕ)) → owned_names k (of_post k ns) ≡ ns
 names_all k [] = refl
 names_all k (n ∷ ns) =
-    ap (λ t. cond t (n ∷ owned_names k (of_post k ns)) (owned_names k (of_post k ns))) (eq-eqb k k refl) ∙ ap (λ z. n ∷ z) (names_all k ns)
+    names_cons k (record { name = n; owner = k }) (of_post k ns) true (eq-eqb k k refl) ∙ ap (λ z. n ∷ z) (names_all k ns)
 
 names_other : (k j : ℕ) (ns : List (List ℕ)) → j < k → owned_names j (of_post k ns) ≡ []
 names_other k j [] l = refl
 names_other k j (n ∷ ns) l =
-    ap (λ t. cond t (n ∷ owned_names j (of_post k ns)) (owned_names j (of_post k ns))) (ne_eqb k j (λ e. omega arith)) ∙ names_other k j ns l
+    names_cons j (record { name = n; owner = k }) (of_post k ns) false (ne_eqb k j (λ e. omega arith)) ∙ names_other k j ns l
 
 -- Signals of a later post leave the lines before as they were, and one post more is one line more.
 lines_more : (ss : List Owned) (k m : ℕ) (ns new : List (List ℕ)) (n : List ℕ) → Below m ss → k + length ns ≡ suc m → lines_from (ss ++ of_post (suc m) new) k (ns ++ n ∷ []) ≡ lines_from ss k ns ++ post_text n new ∷ []
@@ -127,8 +115,8 @@ lines_more ss k m [] new n b e =
     ∙ names_all (suc m) new)
 lines_more ss k m (x ∷ ns) new n b e =
     let first : owned_names k (ss ++ of_post (suc m) new) ≡ owned_names k ss = names_append k ss (of_post (suc m) new) ∙ ap (λ z. owned_names k ss ++ z) (names_other (suc m) k new (omega arith)) ∙ append-nil (owned_names k ss) in
-    ap (λ z. post_text x z ∷ lines_from (ss ++ of_post (suc m) new) (suc k) (ns ++ n ∷ [])) first
-    ∙ ap (λ z. post_text x (owned_names k ss) ∷ z) (lines_more ss (suc k) m ns new n b (omega arith))
+    ap (λ z. post_text x z ∷ lines_from (ss ++ of_post (suc m) new) (k + 1) (ns ++ n ∷ [])) first
+    ∙ ap (λ z. post_text x (owned_names k ss) ∷ z) (lines_more ss (k + 1) m ns new n b (omega arith))
 
 -- The entries say the lines.
 pub record Says (e : Entries) (ls : List (List ℕ)) : Type 0 where

@@ -1,8 +1,9 @@
 -- What post lines say, and when they are held back.
 use Rattle.std.specs.Prelude.{ℕ, Bool, cond, not, ◌||◌, List, [], ◌∷◌, ◌++◌, map, length, take, drop, is_some, Some, None, codes, Option, ◌==◌, nat_le}
+use Rattle.std.specs.List.{fold, list_all, slice_split}
 use Rattle.std.specs.Str.{bytes_eq}
 use Rattle.holds.specs.Cases.{Hold, Cases, on_line}
-use Rattle.words.specs.Names.{among, every, is_name, name_byte}
+use Rattle.words.specs.Names.{among, is_name, name_byte}
 
 -- A signal: its name, and the number of the post that owns it.
 pub record Owned : Type 0 where
@@ -29,21 +30,15 @@ with_signal e n =
     record { posts = e.posts; signals = e.signals ++ record { name = n; owner = length e.posts } ∷ [] }
 
 abbrev pub with_signals : Entries → List (List ℕ) → Entries
-with_signals e [] = e
-with_signals e (n ∷ ns) = with_signals (with_signal e n) ns
+with_signals e ns = fold with_signal e ns
 
 -- Posts and signals share one set of names.
 abbrev pub stands : Entries → List ℕ → Bool
 stands e n = among n e.posts || among n (signal_names e)
 
 -- A text in pieces, parted by each byte b.
-abbrev pub onto : ℕ → List (List ℕ) → List (List ℕ)
-onto c [] = (c ∷ []) ∷ []
-onto c (p ∷ ps) = (c ∷ p) ∷ ps
-
 abbrev pub pieces : ℕ → List ℕ → List (List ℕ)
-pieces b [] = [] ∷ []
-pieces b (c ∷ cs) = cond (c == b) ([] ∷ pieces b cs) (onto c (pieces b cs))
+pieces b bs = slice_split (λ c. c == b) bs
 
 abbrev pub begins_with : List ℕ → List ℕ → Bool
 begins_with p bs = bytes_eq (take (length p) bs) p
@@ -91,7 +86,7 @@ names_holds e l (Some p) = name_holds e l p.name ++ signals_holds (with_post e p
 -- A line l that is no rule line, behind a rule line or not: its bytes, its form, whether it is a ninth post line, its names.
 abbrev pub post_holds : Entries → Bool → ℕ → List ℕ → Cases Hold
 post_holds e ruled l bs =
-    (on_line 2 l, not (every line_byte bs)) ∷ (on_line 3 l, not (is_some (post_line bs)) || ruled)
+    (on_line 2 l, not (list_all line_byte bs)) ∷ (on_line 3 l, not (is_some (post_line bs)) || ruled)
     ∷ (on_line 4 l, nat_le 8 (length e.posts)) ∷ names_holds e l (post_line bs)
 
 -- The entries with those of a post line.

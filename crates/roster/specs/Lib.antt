@@ -1,5 +1,5 @@
 pub mod Faults
 pub mod Entries
 pub mod Rosters
-pub mod Colons
+pub mod Parts
 pub mod Written

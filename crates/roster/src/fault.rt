@@ -117,10 +117,8 @@ impl RuleFault {
         ensures { Some result ≡ (answered (Rule self)).line }
     {
         match self {
-            RuleFault::Long(line) => line,
-            RuleFault::Words(WordFault::Misplaced(place)) => place.line,
-            RuleFault::Words(WordFault::Unknown(place)) => place.line,
-            RuleFault::Large(line) => line,
+            RuleFault::Long(line) | RuleFault::Large(line) => line,
+            RuleFault::Words(WordFault::Misplaced(place) | WordFault::Unknown(place)) => place.line,
         }
     }
 }

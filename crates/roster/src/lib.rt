@@ -4,10 +4,6 @@
 mod fault;
 mod postline;
 mod roster;
-mod rosters;
-mod scan;
 
 pub use fault::{Place, RuleFault, SheetFault, WordFault};
-pub use roster::{Post, Roster, Signal};
-pub use rosters::{MOST_POSTS, MOST_SIGNALS};
-pub use scan::{find, is_begun};
+pub use roster::{MOST_POSTS, MOST_SIGNALS, Post, Roster, Signal};

@@ -1,46 +1,43 @@
-//! Reads a post line.
+//! The parts of a post line.
 ghost use Rattle.std.specs.Prelude.{◌≡◌};
-ghost use Rattle.roster.specs.Entries.{after_post, pieces, post_holds, signals_holds, with_signals};
-ghost use Rattle.roster.specs.Rosters.{Judged, entries};
+ghost use Rattle.std.specs.List.{list_all};
+ghost use Rattle.std.specs.Option.{option_map};
+ghost use Rattle.roster.specs.Entries.{line_byte, post_line};
+ghost use Rattle.roster.specs.Parts.{line_of};
 
-use crate::fault::SheetFault;
-use crate::roster::Roster;
-use crate::rosters::MOST_POSTS;
-use crate::scan::{are_line_bytes, colon, find};
+use words::is_name_byte;
 
-impl Roster {
-    /// Adds the signals of the last post, parted by single spaces.
-    fn add_signals(&mut self, text: &[u8], line: usize) -> Result<(), SheetFault>
-        ensures { Judged (signals_holds (entries self.old) line (pieces 32 text.now)) (with_signals (entries self.old) (pieces 32 text.now)) (entries self.new) result }
-    {
-        let mut at = 0;
-        loop {
-            let end = find(text, b' ', at);
-            self.add_signal(&text[at..end], line)?;
-            if end >= text.len() {
-                return Ok(());
-            }
-            at = end + 1;
-        }
+/// A post line: the name of the post, and the text of its signals.
+#[derive(Clone, Copy)]
+pub struct PostLine<'a> {
+    pub(crate) name: &'a [u8],
+    pub(crate) signals: &'a [u8],
+}
+
+/// The post line that a text is, if it is one: behind `post` and a space stand the name, the one colon, and a space before the
+/// signals.
+pub(crate) fn post_line(text: &[u8]) -> Option<PostLine<'_>>
+    ensures { post_line text.now ≡ option_map line_of result }
+{
+    let mut pieces = text.strip_prefix(b"post ")?.split(|b| *b == b':');
+    let name = pieces.next()?;
+    let behind = pieces.next()?;
+    if pieces.next().is_some() {
+        return None;
     }
+    let signals = behind.strip_prefix(b" ")?;
+    Some(PostLine { name, signals })
+}
 
-    /// Adds the post and the signals of a line that is no rule line, behind a rule line or not.
-    pub fn read_post(&mut self, text: &[u8], line: usize, ruled: bool) -> Result<(), SheetFault>
-        ensures { Judged (post_holds (entries self.old) ruled line text.now) (after_post (entries self.old) text.now) (entries self.new) result }
-    {
-        if !are_line_bytes(text) {
-            return Err(SheetFault::Byte(line));
-        }
-        let Some(colon) = colon(text) else {
-            return Err(SheetFault::Form(line));
-        };
-        if ruled {
-            return Err(SheetFault::Form(line));
-        }
-        if self.posts.len() >= MOST_POSTS {
-            return Err(SheetFault::Posts(line));
-        }
-        self.add_post(&text[5..colon], line)?;
-        self.add_signals(&text[colon + 2..], line)
-    }
+/// Whether all bytes may stand in a line that is no rule line.
+pub(crate) fn are_line_bytes(text: &[u8]) -> bool
+    ensures { result ≡ list_all line_byte text.now }
+{
+    text.iter().all(|b| is_line_byte(*b))
+}
+
+fn is_line_byte(b: u8) -> bool
+    ensures { result ≡ line_byte b }
+{
+    matches!(b, b' ' | b':') || is_name_byte(b)
 }

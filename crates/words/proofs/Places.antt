@@ -1,32 +1,59 @@
--- The place of a text among names, from a place on.
-use Rattle.std.proofs.Common.{◌≡◌, ℕ, suc, ◌+◌, ◌<◌, ◌≤◌, Bool, true, false, cond, ◌||◌, ltb, List, [], ◌∷◌, map, length, get_or, drop, sym, refl, ap, ◌∙◌, arith}
+-- What has names, in the place of the names.
+use Rattle.std.proofs.Common.{◌≡◌, ℕ, suc, ◌+◌, Bool, true, false, cond, not, ◌||◌, ltb, List, [], ◌∷◌, map, length, is_some, Some, None, sym, refl, ap, ◌∙◌, arith}
 use lib.Dec.{leb-suc-suc}
-use Rattle.std.proofs.lemmas.Bool.{lt-ltb}
+use Rattle.std.proofs.lemmas.Bool.{cond_both, lt-ltb, ltb-false}
+use Rattle.std.proofs.lemmas.List.{length-map}
+use Rattle.std.proofs.lemmas.List.Sums.{prefix_len-le-length}
+use Rattle.std.specs.List.{list_any, position, position_or_len}
+use Rattle.std.specs.Option.{option_map, unwrap_or}
 use Rattle.std.specs.Str.{bytes_eq}
-use Rattle.std.proofs.lemmas.List.{drop-map, drop_more, drop_all}
-use Rattle.words.specs.Names.{among, place_of}
+use Rattle.words.specs.Names.{among, is_name, place_of}
+use Rattle.words.specs.Texts.{constant_of, word_of}
+use Rattle.words.specs.declared.word.Leaf.TheVariants.{Const, Signal}
+use Rattle.words.specs.declared.word.Word.TheVariants.{Atom, Stray}
 
-module _ {X : Type 0} (f : X → List ℕ) (t : List ℕ) (xs : List X) (i : ℕ) where
-  next_is : (y : X) → i < length xs → y ≡ get_or xs i y → place_of t (drop i (map f xs)) ≡ cond (bytes_eq t (f y)) 0 (suc (place_of t (drop (i + 1) (map f xs))))
-  next_is y l e =
-      ap (place_of t) (drop-map f i xs ∙ ap (map f) (drop_more xs i y l))
-      ∙ ap (λ z. place_of t (f z ∷ map f (drop (i + 1) xs))) (sym e)
-      ∙ ap (λ zs. cond (bytes_eq t (f y)) 0 (suc (place_of t zs))) (sym (drop-map f (i + 1) xs))
+module _ {X : Type 0} (p : X → Bool) where
+  -- There is a place just where an element passes.
+  some_position : (xs : List X) → is_some (position p xs) ≡ list_any p xs
+  some_position xs = some_below (ltb (position_or_len p xs) (length xs)) ∙ below xs
+    where
+      some_below : (t : Bool) → is_some (cond t (Some (position_or_len p xs)) None) ≡ t
+      some_below true = refl
+      some_below false = refl
 
-  pub place_here : (y : X) → i < length xs → y ≡ get_or xs i y → bytes_eq t (f y) ≡ true → place_of t (drop i (map f xs)) ≡ 0
-  place_here y l e h = next_is y l e ∙ ap (λ b. cond b 0 (suc (place_of t (drop (i + 1) (map f xs))))) h
+      below : (ys : List X) → ltb (position_or_len p ys) (length ys) ≡ list_any p ys
+      below [] = refl
+      below (y ∷ ys) = go (p y) (below ys)
+        where
+          go : (t : Bool) → ltb (position_or_len p ys) (length ys) ≡ list_any p ys → ltb (cond (not t) (1 + position_or_len p ys) 0) (suc (length ys)) ≡ (t || list_any p ys)
+          go true h = lt-ltb 0 (suc (length ys)) (omega arith)
+          go false h =
+              let e : 1 + position_or_len p ys ≡ suc (position_or_len p ys) = omega arith in
+              ap (λ k. ltb k (suc (length ys))) e ∙ leb-suc-suc (suc (position_or_len p ys)) (length ys) ∙ h
 
-  pub place_on : (y : X) → i < length xs → y ≡ get_or xs i y → bytes_eq t (f y) ≡ false → place_of t (drop i (map f xs)) ≡ suc (place_of t (drop (i + 1) (map f xs)))
-  place_on y l e h = next_is y l e ∙ ap (λ b. cond b 0 (suc (place_of t (drop (i + 1) (map f xs))))) h
+pub among_is : (t : List ℕ) (ns : List (List ℕ)) → is_some (position (λ n. bytes_eq t n) ns) ≡ among t ns
+among_is t ns = some_position (λ n. bytes_eq t n) ns
 
-  pub place_none : length xs ≤ i → place_of t (drop i (map f xs)) ≡ 0
-  place_none l = ap (place_of t) (drop-map f i xs ∙ ap (map f) (drop_all i xs l))
+module _ {X : Type 0} (f : X → List ℕ) (t : List ℕ) where
+  place_map : (xs : List X) → position_or_len (λ x. bytes_eq t (f x)) xs ≡ place_of t (map f xs)
+  place_map [] = refl
+  place_map (x ∷ xs) = ap (λ k. cond (not (bytes_eq t (f x))) (1 + k) 0) (place_map xs)
 
--- A text stands among names just if its place is before their end.
-pub among_place : (t : List ℕ) (xs : List (List ℕ)) → ltb (place_of t xs) (length xs) ≡ among t xs
-among_place t [] = refl
-among_place t (x ∷ xs) = go (bytes_eq t x) (among_place t xs)
-  where
-    go : (b : Bool) → ltb (place_of t xs) (length xs) ≡ among t xs → ltb (cond b 0 (suc (place_of t xs))) (suc (length xs)) ≡ (b || among t xs)
-    go true h = lt-ltb 0 (suc (length xs)) (omega arith)
-    go false h = leb-suc-suc (suc (place_of t xs)) (length xs) ∙ h
+  pub position_map : (xs : List X) → position (λ x. bytes_eq t (f x)) xs ≡ position (λ n. bytes_eq t n) (map f xs)
+  position_map xs =
+      ap (λ k. cond (ltb k (length xs)) (Some k) None) (place_map xs)
+      ∙ ap (λ n. cond (ltb (place_of t (map f xs)) n) (Some (place_of t (map f xs))) None) (sym (length-map xs f))
+
+-- One past the last, where no element passes.
+position_or : {X : Type 0} (p : X → Bool) (xs : List X) → unwrap_or (position p xs) (length xs) ≡ position_or_len p xs
+position_or p xs =
+    let most = prefix_len-le-length (λ x. not (p x)) xs in
+    cond_both (ltb (position_or_len p xs) (length xs)) (Some (position_or_len p xs)) None (λ o. unwrap_or o (length xs) ≡ position_or_len p xs)
+    (λ t. refl) (λ t. let least = ltb-false (position_or_len p xs) (length xs) t in omega arith)
+
+-- The word that a name is.
+pub word_named : {X : Type 0} (f : X → List ℕ) (xs : List X) (bs : List ℕ) → constant_of bs ≡ None → is_name bs ≡ true → Atom (Signal (unwrap_or (position (λ n. bytes_eq bs n) (map f xs)) (length xs))) ≡ word_of (map f xs) bs
+word_named f xs bs c n =
+    ap (λ k. Atom (Signal k)) (ap (unwrap_or (position (λ y. bytes_eq bs y) (map f xs))) (sym (length-map xs f)) ∙ position_or (λ y. bytes_eq bs y) (map f xs))
+    ∙ ap (λ b. cond b (Atom (Signal (place_of bs (map f xs)))) Stray) (sym n)
+    ∙ ap (λ o. unwrap_or (option_map (λ b. Atom (Const b)) o) (cond (is_name bs) (Atom (Signal (place_of bs (map f xs)))) Stray)) (sym c)

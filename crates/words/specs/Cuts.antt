@@ -1,6 +1,7 @@
 -- What it means that a text is cut into words.
 use Rattle.std.specs.Prelude.{◌≡◌, ℕ, true, false, ◌↔◌, List, [], ◌∷◌, ◌++◌, Some, slice_index}
-use Rattle.words.specs.Names.{every, name_byte}
+use Rattle.std.specs.List.{list_all}
+use Rattle.words.specs.Names.{name_byte}
 use Rattle.words.specs.Texts.{sign, word_of, words_of}
 use Rattle.words.specs.declared.word.Connective.TheVariants.{Implies}
 use Rattle.words.specs.declared.word.Word.{Word}
@@ -17,7 +18,7 @@ pub data Cuts (w : List ℕ → Word) : List ℕ → List Word → Type 0 where
   -- the two bytes of `->` are one word
   dash : {bs : List ℕ} {ws : List Word} → Cuts w bs ws → Cuts w (45 ∷ 62 ∷ bs) (Infix Implies ∷ ws)
   -- name bytes are one word, as far as they go
-  run : (b : ℕ) (r : List ℕ) {bs : List ℕ} {ws : List Word} → every name_byte (b ∷ r) ≡ true → name_byte (slice_index bs 0) ≡ false → Cuts w bs ws → Cuts w ((b ∷ r) ++ bs) (w (b ∷ r) ∷ ws)
+  run : (b : ℕ) (r : List ℕ) {bs : List ℕ} {ws : List Word} → list_all name_byte (b ∷ r) ≡ true → name_byte (slice_index bs 0) ≡ false → Cuts w bs ws → Cuts w ((b ∷ r) ++ bs) (w (b ∷ r) ∷ ws)
 
 -- The words of a text are those that it is cut into.
 abbrev pub WordsMean : Type 0

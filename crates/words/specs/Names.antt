@@ -1,5 +1,6 @@
 -- Names of posts and signals.
-use Rattle.std.specs.Prelude.{ℕ, suc, Bool, true, false, cond, not, ◌&&◌, ◌||◌, List, [], ◌∷◌, length, codes, ◌==◌, nat_le, slice_index}
+use Rattle.std.specs.Prelude.{ℕ, Bool, not, ◌&&◌, ◌||◌, List, [], ◌∷◌, length, codes, ◌==◌, nat_le, slice_index}
+use Rattle.std.specs.List.{list_all, list_any, position_or_len}
 use Rattle.std.specs.Str.{bytes_eq}
 
 -- A lower-case letter.
@@ -10,15 +11,9 @@ letter b = nat_le 97 b && nat_le b 122
 abbrev pub name_byte : ℕ → Bool
 name_byte b = letter b || ((nat_le 48 b && nat_le b 57) || b == 95)
 
--- All bytes pass a test.
-abbrev pub every : (ℕ → Bool) → List ℕ → Bool
-every p [] = true
-every p (b ∷ bs) = p b && every p bs
-
 -- The bytes stand in a list of texts.
 abbrev pub among : List ℕ → List (List ℕ) → Bool
-among x [] = false
-among x (y ∷ ys) = bytes_eq x y || among x ys
+among x ys = list_any (λ y. bytes_eq x y) ys
 
 -- The words of a sheet that are no names.
 abbrev pub reserved : List (List ℕ)
@@ -26,9 +21,8 @@ reserved = codes "post" ∷ codes "rule" ∷ codes "true" ∷ codes "false" ∷ 
 
 -- A name: 1 to 12 name bytes, a letter first, and no reserved word.
 abbrev pub is_name : List ℕ → Bool
-is_name bs = letter (slice_index bs 0) && (every name_byte bs && (nat_le (length bs) 12 && not (among bs reserved)))
+is_name bs = letter (slice_index bs 0) && (list_all name_byte bs && (nat_le (length bs) 12 && not (among bs reserved)))
 
 -- The place of a text in a list, from 0; the list's length where it does not stand there.
 abbrev pub place_of : List ℕ → List (List ℕ) → ℕ
-place_of x [] = 0
-place_of x (y ∷ ys) = cond (bytes_eq x y) 0 (suc (place_of x ys))
+place_of x names = position_or_len (λ y. bytes_eq x y) names

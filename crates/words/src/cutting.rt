@@ -1,78 +1,66 @@
-//! Cuts a text into words.
-ghost use Rattle.std.specs.Prelude.{◌≡◌, ◌+◌, ◌^◌, ◌<◌, ◌≤◌, List, [], ◌∷◌, ◌++◌, map, length, IfOk, vec_len};
-ghost use Rattle.words.specs.Lists.{Cut, Holds};
-ghost use Rattle.words.specs.Texts.{words_of};
-ghost use Rattle.words.specs.declared.word.Word.{Word};
+//! What words a text is cut into.
+ghost use Rattle.std.specs.Prelude.{◌≡◌, ◌≤◌, map, length};
+ghost use Rattle.std.specs.List.{prefix_len};
+ghost use Rattle.words.specs.Names.{name_byte};
+ghost use Rattle.words.specs.Texts.{constant_of, sign as sign_of, word_of};
 
-use crate::named::Named;
-use crate::piece::Piece;
-use crate::pieces::piece;
-use crate::word::Word;
-use crate::wordlist::WordList;
-use std::alloc::{AllocError, Global};
-
-/// The most words of a rule.
-pub const MOST_WORDS: usize = 200;
+use crate::named::{Named, place_of};
+use crate::naming::{is_name, is_name_byte};
+use crate::word::{Connective, Leaf, Word};
+use parts::Unary;
 
 /// A text has a byte that is in no word.
 #[derive(Clone, Copy, PartialEq, Eq, Debug)]
 pub struct ForeignByte;
 
-impl WordList {
-    /// No words; all the memory is taken here.
-    pub fn new(heap: Global) -> Result<WordList, AllocError>
-        ensures { IfOk result (λ l. (vec_len l.words ≡ 0) × (l.count ≡ 0)) }
-    {
-        let words = Vec::with_capacity(heap, MOST_WORDS)?;
-        Ok(WordList { words, count: 0 })
+/// The word that a character is by itself.
+pub(crate) fn sign(c: char) -> Option<Word>
+    ensures { result ≡ sign_of c }
+{
+    match c {
+        '!' => Some(Word::Prefix(Unary::Not)),
+        'X' => Some(Word::Prefix(Unary::Next)),
+        'F' => Some(Word::Prefix(Unary::Finally)),
+        'G' => Some(Word::Prefix(Unary::Globally)),
+        '|' => Some(Word::Infix(Connective::Or)),
+        '&' => Some(Word::Infix(Connective::And)),
+        'U' => Some(Word::Infix(Connective::Until)),
+        '(' => Some(Word::Open),
+        ')' => Some(Word::Close),
+        _ => None,
     }
+}
 
-    /// How many words the text has.
-    pub fn count(&self) -> usize
-        ensures { result ≡ self.now.count }
-    {
-        self.count
-    }
+/// How many name bytes a text begins with.
+pub(crate) fn run_len(text: &[u8]) -> usize
+    ensures value { result ≡ prefix_len name_byte text.now }
+    ensures bound { result ≤ length text.now }
+{
+    text.iter().take_while(|b| is_name_byte(**b)).count()
+}
 
-    /// The first words of the text, at most 200.
-    pub fn as_slice(&self) -> &[Word]
-        ensures items { result.now ≡ self.now.words.items }
-        ensures few { length result.now ≤ 200 }
-    {
-        self.words.as_slice()
+/// The constant that a run of name bytes is.
+fn constant(run: &[u8]) -> Option<bool>
+    ensures { result ≡ constant_of run.now }
+{
+    match run {
+        b"true" => Some(true),
+        b"false" => Some(false),
+        _ => None,
     }
+}
 
-    /// Takes one word more.
-    fn add(&mut self, word: Word)
-        requires { self.old.count + 1 < 2 ^ 64 }
-        ensures words { (ws : List Word) → Holds ws self.old → Holds (ws ++ word ∷ []) self.new }
-        ensures count { self.new.count ≡ self.old.count + 1 }
-    {
-        self.count += 1;
-        if self.words.len() >= MOST_WORDS {
-            return;
-        }
-        self.words.push_reserved(word);
+/// The word that a run of name bytes is.
+pub(crate) fn word<T: Named>(run: &[u8], signals: &[T]) -> Word
+    requires { length signals.now ≤ 32 }
+    ensures { result ≡ word_of (map T.Named.label signals.now) run.now }
+{
+    if let Some(value) = constant(run) {
+        return Word::Atom(Leaf::Const(value));
     }
-
-    /// Takes the words of a text in place of those that it has; it may say that a byte is in no word.
-    pub fn cut<T: Named>(&mut self, text: &[u8], signals: &[T]) -> Result<(), ForeignByte>
-        requires { length signals.now ≤ 32 }
-        ensures { Cut (words_of (map T.Named.label signals.now) text.now) self.new result }
-    {
-        self.words.clear();
-        self.count = 0;
-        let mut at = 0;
-        while at < text.len() {
-            match piece(text, at, signals) {
-                Piece::Gap => at += 1,
-                Piece::Found(word, more) => {
-                    self.add(word);
-                    at = at + 1 + more;
-                }
-                Piece::Foreign => return Err(ForeignByte),
-            }
-        }
-        Ok(())
+    if !is_name(run) {
+        return Word::Stray;
     }
+    let place = place_of(run, signals).unwrap_or(signals.len());
+    Word::Atom(Leaf::Signal(place as u8))
 }

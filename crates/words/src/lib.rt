@@ -6,15 +6,13 @@ mod laws;
 mod name;
 mod named;
 mod naming;
-mod piece;
-mod pieces;
 mod word;
 mod wordlist;
 
-pub use cutting::{ForeignByte, MOST_WORDS};
+pub use cutting::ForeignByte;
 pub use laws::words_mean;
 pub use name::Name;
 pub use named::{Named, is_among, place_of};
-pub use naming::{NAME_BYTES, is_name, is_name_byte, is_same};
+pub use naming::{NAME_BYTES, is_name, is_name_byte};
 pub use word::{Connective, Leaf, Word};
-pub use wordlist::WordList;
+pub use wordlist::{MOST_WORDS, WordList};

@@ -3,6 +3,7 @@ use parts::Unary;
 
 /// What stands for itself: a constant, or a signal by its number. A name that is no signal has the number of signals, which
 /// is one past the last.
+// The number is no option: the theorems of the grammar and of the reader tell by it a name that is no signal.
 #[derive(Clone, Copy)]
 pub enum Leaf {
     Const(bool),

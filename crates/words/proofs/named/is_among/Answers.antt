@@ -1,11 +1,9 @@
-use Rattle.std.proofs.Common.{ltb, map, length, sym, ap, ◌∙◌}
-use Rattle.std.proofs.lemmas.List.{length-map}
-use Rattle.words.proofs.Places.{among_place}
+use Rattle.std.proofs.Common.{map, is_some, ap}
+use Rattle.words.proofs.Places.{among_is}
 use Rattle.words.proofs.named.is_among.Goals as goal
 
 pub returns : goal.returns
 returns g c =
-    let ns = map g.T.Named.label c.args.items.now in
-    ap (λ k. ltb k (length c.args.items.now)) c.place_of.ensures.value
-    ∙ ap (ltb _) (sym (length-map c.args.items.now g.T.Named.label))
-    ∙ among_place c.args.text.now ns
+    let among = among_is c.args.text.now (map g.T.Named.label c.args.items.now) in
+    let placed = ap is_some c.place_of.ensures.value in
+    cc (among, placed)

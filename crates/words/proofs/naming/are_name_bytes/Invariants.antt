@@ -1,7 +1,0 @@
-use Rattle.std.proofs.Common.{◌≡◌, drop}
-use Rattle.words.specs.Names.{every, name_byte}
-use Rattle.words.proofs.naming.are_name_bytes.Given as goal
-
--- what is left decides
-abbrev pub invariant-loop-b : goal.invariant-loop-b
-invariant-loop-b l = every name_byte (drop l.b-index l.bytes) ≡ every name_byte l.bytes
