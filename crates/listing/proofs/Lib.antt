@@ -2,6 +2,5 @@ pub mod Wholes
 pub mod Splitting
 pub mod Grouping
 pub mod Reading
-pub mod Judging
 pub mod Starting
 pub mod Ordered

@@ -1,41 +1,55 @@
 -- A whole reading that grows from the last digit on.
-use Rattle.std.proofs.Common.{◌≡◌, ℕ, ◌+◌, ◌-◌, ◌*◌, ◌^◌, ◌<◌, ◌≤◌, Bool, true, false, cond, eqb, List, ◌∷◌, length, get_or, drop, sym, refl, ap, ◌∙◌, arith}
+use Rattle.std.proofs.Common.{◌≡◌, ℕ, ◌+◌, ◌*◌, ◌^◌, ◌<◌, ◌≤◌, Bool, true, false, cond, eqb, List, [], ◌∷◌, ◌++◌, map, length, reverse, sym, refl, ap, ◌∙◌, add-one, arith}
 use mir.Val.{bool_byte}
-use Rattle.std.proofs.lemmas.List.{at_drop_more, at_drop_all}
-use Rattle.std.proofs.lemmas.Bool.{eq-eqb, ne_eqb}
+use native.Mathlib.Nat.{pow-succ'}
+use Rattle.std.proofs.Math.Nat.{pow-le-pow_right}
+use Rattle.std.specs.List.{filter, fold}
+use Rattle.std.proofs.lemmas.List.{append-nil, length-map, length-reverse, reverse-append}
+use Rattle.std.proofs.lemmas.List.Elements.{filter-append}
+use Rattle.std.proofs.lemmas.List.Sums.{fold_push}
 use Rattle.listing.specs.Ticks.{bits, whole}
-use Rattle.listing.proofs.Grouping.{bits_cons, bits_left}
-use Rattle.listing.proofs.Wholes.{whole_small}
+use Rattle.listing.proofs.Grouping.{bits_kept, is_no_space}
 
-pub reading_none : (bs : List ℕ) → 0 ≡ whole (bits (drop (length bs) bs))
-reading_none bs = sym (at_drop_all (λ z. whole (bits z)) bs (length bs) (omega arith))
+-- One digit more in front.
+abbrev pub doubled : ℕ → ℕ → ℕ
+doubled r b = 2 * r + bool_byte (eqb b 49)
 
-byte_is : (b : Bool) → bool_byte b ≡ cond b 1 0
-byte_is true = refl
-byte_is false = refl
+-- So many digits make a small number.
+pub doubled_small : (r n b : ℕ) → r < 2 ^ n → doubled r b < 2 ^ (n + 1)
+doubled_small r n b l = let e = pow-succ' 2 n in let s = one (eqb b 49) in rw (add-one n) (omega arith)
+  where
+    one : (t : Bool) → bool_byte t ≤ 1
+    one true = omega arith
+    one false = omega arith
 
--- One byte before i, where r is the reading of what stands from i on.
-module _ (bs : List ℕ) (i r : ℕ) (some : 0 < i) (within : i ≤ length bs) (so_far : r ≡ whole (bits (drop i bs))) where
-  one_more : (t : Bool) → eqb (get_or bs (i - 1) 0) 32 ≡ t → whole (bits (drop (i - 1) bs)) ≡ whole (cond t (bits (drop i bs)) (eqb (get_or bs (i - 1) 0) 49 ∷ bits (drop i bs)))
-  one_more t e =
-      let k : i - 1 + 1 ≡ i = omega arith in
-      at_drop_more (λ z. whole (bits z)) bs (i - 1) 0 (omega arith)
-      ∙ ap (λ j. whole (bits (get_or bs (i - 1) 0 ∷ drop j bs))) k
-      ∙ ap whole (bits_cons (get_or bs (i - 1) 0) (drop i bs))
-      ∙ ap (λ u. whole (cond u (bits (drop i bs)) (eqb (get_or bs (i - 1) 0) 49 ∷ bits (drop i bs)))) e
+pub doubled_fits : (r n b : ℕ) → r < 2 ^ n → n < 32 → doubled r b < 2 ^ 32
+doubled_fits r n b l m = let h = doubled_small r n b l in let p : 2 ^ (n + 1) ≤ 2 ^ 32 = (let m : n + 1 ≤ 32 = omega arith in pow-le-pow_right (omega arith) m) in omega arith
 
-  pub past_space : get_or bs (i - 1) 0 ≡ 32 → r ≡ whole (bits (drop (i - 1) bs))
-  past_space e = so_far ∙ sym (one_more true (eq-eqb _ _ e))
+filter-reverse : (t : ℕ → Bool) (bs : List ℕ) → filter t (reverse bs) ≡ reverse (filter t bs)
+filter-reverse t [] = refl
+filter-reverse t (c ∷ cs) =
+    ap (filter t) (reverse-append (c ∷ []) cs) ∙ filter-append t (reverse cs) (c ∷ []) ∙ ap (λ z. z ++ filter t (c ∷ [])) (filter-reverse t cs)
+    ∙ go (t c)
+  where
+    go : (u : Bool) → reverse (filter t cs) ++ cond u (c ∷ []) [] ≡ reverse (cond u (c ∷ filter t cs) (filter t cs))
+    go true = sym (reverse-append (c ∷ []) (filter t cs))
+    go false = append-nil (reverse (filter t cs))
 
-  module _ (other : get_or bs (i - 1) 0 ≡ 32 → ⊥) (d : ℕ) (digit : d ≡ bool_byte (eqb (get_or bs (i - 1) 0) 49)) where
-    pub past_digit : 2 * r + d ≡ whole (bits (drop (i - 1) bs))
-    past_digit =
-        let e = one_more false (ne_eqb _ _ other) in
-        let q = digit ∙ byte_is (eqb (get_or bs (i - 1) 0) 49) in
-        omega arith
+fold-reverse : (ds : List ℕ) → fold doubled 0 (reverse ds) ≡ whole (map (λ b. eqb b 49) ds)
+fold-reverse [] = refl
+fold-reverse (d ∷ ds) =
+    ap (fold doubled 0) (reverse-append (d ∷ []) ds) ∙ fold_push doubled 0 (reverse ds) d
+    ∙ ap (λ r. doubled r d) (fold-reverse ds) ∙ go (eqb d 49)
+  where
+    go : (b : Bool) → 2 * whole (map (λ c. eqb c 49) ds) + bool_byte b ≡ cond b 1 0 + 2 * whole (map (λ c. eqb c 49) ds)
+    go true = omega arith
+    go false = omega arith
 
-    pub no_overflow : length (bits bs) ≤ 32 → 2 * r + d < 2 ^ 32
-    no_overflow few =
-        let h = whole_small (bits (drop (i - 1) bs)) 32 (let l = bits_left (i - 1) bs in omega arith) in
-        let e = past_digit in
-        omega arith
+pub fold_line : (line : List ℕ) → fold doubled 0 (filter is_no_space (reverse line)) ≡ whole (bits line)
+fold_line line =
+    ap (fold doubled 0) (filter-reverse is_no_space line) ∙ fold-reverse (filter is_no_space line) ∙ ap whole (sym (bits_kept line))
+
+pub length_read : (line : List ℕ) → length (filter is_no_space (reverse line)) ≡ length (bits line)
+length_read line =
+    ap length (filter-reverse is_no_space line) ∙ length-reverse (filter is_no_space line)
+    ∙ sym (length-map (filter is_no_space line) (λ b. eqb b 49)) ∙ ap length (sym (bits_kept line))

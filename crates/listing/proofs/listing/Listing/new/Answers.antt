@@ -12,7 +12,6 @@ returns c =
     let read = c.in-Ok.ensures in
     let roster = c.in-Ok.sheet.roster in
     starts c.args.input.now _ _ (draft_of c.in-Ok.sheet) (state_of c.in_ok-monitor.monitor) _ _
-    (ap (λ k. take k c.args.input.now) (sub-zero c.sheet_end-end.result) ∙ c.sheet_end-end.ensures.sheet)
-    c.sheet_end-end.ensures.ticks read.0 read.1 c.in_ok-monitor.ensures
+    c.split_input.ensures.sheet c.split_input.ensures.ticks read.0 read.1 c.in_ok-monitor.ensures
     (c.rule.ensures.signals ∙ roster.signals.ok.0 ∙ sym (length-map (vec_items roster.signals) owned))
     c.rule.ensures.formula
