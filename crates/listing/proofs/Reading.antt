@@ -1,10 +1,19 @@
 -- A whole reading that grows from the last digit on.
-use Rattle.std.proofs.Common.{◌≡◌, ℕ, ◌+◌, ◌*◌, ◌^◌, ◌<◌, ◌≤◌, Bool, true, false, cond, eqb, List, [], ◌∷◌, ◌++◌, map, length, reverse, sym, refl, ap, ◌∙◌, add-one, arith}
+use denote.Param.Members.{Mut}
+use denote.Ref.{Bor}
+use Rattle.std.proofs.Common.{◌≡◌, ℕ, ◌+◌, ◌*◌, ◌^◌, ◌<◌, ◌≤◌, Bool, true, false, cond, eqb, List, [], ◌∷◌, ◌++◌, map, length, reverse, Some, Option, sym, refl, ap, subst, ◌∙◌, add-one, arith}
 use mir.Val.{bool_byte}
 use native.Mathlib.Nat.{pow-succ'}
 use Rattle.std.proofs.Math.Nat.{pow-le-pow_right}
 use Rattle.std.specs.List.{filter, fold}
-use Rattle.std.proofs.lemmas.List.{append-nil, length-map, length-reverse, reverse-append}
+use Rattle.std.specs.Fn.{Called, CalledAt}
+use Rattle.std.specs.Iterator.{CallableAtEachTurn, FoldTurn, FoldsItems}
+use Rattle.std.specs.Iterator.Adapters.{filter_callee, filter_source, filter_steps}
+use Rattle.std.specs.declared.iter.Filter.{Filter}
+use Rattle.std.proofs.lemmas.Fn.{serves_by}
+use Rattle.std.proofs.lemmas.Iterator.{YieldsList}
+use Rattle.std.proofs.lemmas.Iterator.Consumers.{YieldsList-from_filter, YieldsList-turn, fold_from_yields_List}
+use Rattle.std.proofs.lemmas.List.{append-nil, length-map, length-reverse, length_push, reverse-append}
 use Rattle.std.proofs.lemmas.List.Elements.{filter-append}
 use Rattle.std.proofs.lemmas.List.Sums.{fold_push}
 use Rattle.listing.specs.Ticks.{bits, whole}
@@ -53,3 +62,24 @@ pub length_read : (line : List ℕ) → length (filter is_no_space (reverse line
 length_read line =
     ap length (filter-reverse is_no_space line) ∙ length-reverse (filter is_no_space line)
     ∙ sym (length-map (filter is_no_space line) (λ b. eqb b 49)) ∙ ap length (sym (bits_kept line))
+
+-- The digits come from the last on: a source gives the bytes so, and a filter passes those that are no spaces.
+module _ {S F G : Type 0} {steps : S → Option (Bor ℕ) → S → Type 0} {g : Mut F (Bor (Bor ℕ) × Unit {0}) Bool} {h : Mut G (ℕ × (Bor ℕ × Unit {0})) ℕ} {f : F} {k : G} {s : Filter S F} (line : List ℕ) (callee : filter_callee s ≡ f)
+    (passes : (x : Bor ℕ) (b : Bool) (q : F) → CalledAt g f x b q → (q ≡ f) × (b ≡ is_no_space x.now))
+    (doubles : (r : ℕ) (x : Bor ℕ) (n : ℕ) (q : G) → Called h k (r, (x, tt)) n q → (q ≡ k) × (n ≡ doubled r x.now)) where
+  pub digits_fit : {Q : G × ℕ → Bor ℕ → Type 0} → length (bits line) ≤ 32 → ((q : G × ℕ) (x : Bor ℕ) → doubled q.1 x.now < 2 ^ 32 → Q q x) → YieldsList steps (λ x. x.now) (filter_source s) (reverse line)
+      → CallableAtEachTurn {P = G × ℕ} (filter_steps steps g) (FoldTurn h) Q s (k, 0)
+  digits_fit {Q} few fits source =
+      serves_by (FoldTurn h) (λ xs q. (q.0 ≡ k) × (q.1 < 2 ^ length xs)) (λ xs q x w j r.
+      let d = doubles q.1 x w.1 w.0 (subst (λ z. Called h z (q.1, (x, tt)) w.1 w.0) j.0 r) in
+      let more : length (xs ++ x ∷ []) ≡ length xs + 1 = omega (arith, length_push xs x) in
+      (d.0, rw (d.1, more) (doubled_small q.1 (length xs) x.now j.1))) (filter_steps steps g) Q s (k, 0) (refl, omega arith) (λ xs t q x u y e j.
+      let turn = YieldsList-turn (YieldsList-from_filter g is_no_space source callee passes) xs t y (Some x) u x refl e in
+      fits q x (doubled_fits q.1 (length xs) x.now j.1 (omega (arith, turn.0, length_read line))))
+
+pub fold_digits : {S F G : Type 0} {steps : S → Option (Bor ℕ) → S → Type 0} {g : Mut F (Bor (Bor ℕ) × Unit {0}) Bool} {h : Mut G (ℕ × (Bor ℕ × Unit {0})) ℕ} {f : F} {k : G} {s : Filter S F} {r : ℕ} (line : List ℕ) → FoldsItems (filter_steps steps g) h s k 0 r → filter_callee s ≡ f
+    → ((x : Bor ℕ) (b : Bool) (q : F) → CalledAt g f x b q → (q ≡ f) × (b ≡ is_no_space x.now))
+    → ((n : ℕ) (x : Bor ℕ) (m : ℕ) (q : G) → Called h k (n, (x, tt)) m q → (q ≡ k) × (m ≡ doubled n x.now))
+    → YieldsList steps (λ x. x.now) (filter_source s) (reverse line) → r ≡ whole (bits line)
+fold_digits {g = g} {h = h} {r = r} line ran callee passes doubles source =
+    fold_from_yields_List h doubled 0 r ran (YieldsList-from_filter g is_no_space source callee passes) doubles ∙ fold_line line
