@@ -5,12 +5,9 @@ use Rattle.std.proofs.lemmas.List.{length-append, length-map}
 use Rattle.std.proofs.lemmas.List.Sums.{count_by-le-length, length-filter, sum_by-cons}
 use Rattle.std.proofs.lemmas.Bool.{and_parts, eq-eqb, eqb-true, lt-leb, le-leb, ne_eqb, cases_order}
 use Rattle.roster.specs.Entries.{Owned}
-use Rattle.listing.specs.Ticks.{bits, each_fits, groups, is_group, owned_by}
+use Rattle.listing.specs.Ticks.{bits, each_fits, groups, is_group, is_no_space, owned_by}
 
 -- The digits of all groups are the bytes that are no spaces.
-abbrev pub is_no_space : ℕ → Bool
-is_no_space b = not (eqb b 32)
-
 onto_concat : (c : ℕ) (ps : List (List ℕ)) → concat (onto_first c ps) ≡ c ∷ concat ps
 onto_concat c [] = refl
 onto_concat c (p ∷ ps) = refl

@@ -1,5 +1,5 @@
 -- A tick line: a group of digits for each post, parted by single spaces.
-use Rattle.std.specs.Prelude.{ℕ, ◌+◌, ◌*◌, Bool, cond, not, ◌&&◌, ◌||◌, List, [], ◌∷◌, map, length, ◌==◌, nat_eq}
+use Rattle.std.specs.Prelude.{ℕ, ◌+◌, ◌*◌, ◌%◌, ◌^◌, Bool, cond, not, ◌&&◌, ◌||◌, List, [], ◌∷◌, map, length, ◌==◌, nat_eq, bit_or}
 use Rattle.std.specs.List.{concat, count_by, enumerate_from, list_all, slice_split}
 use Rattle.holds.specs.Order.{Tests}
 use Rattle.roster.specs.Entries.{Entries, Owned}
@@ -41,3 +41,11 @@ whole (b ∷ bs) = cond b 1 0 + 2 * whole bs
 -- The whole reading of a line.
 abbrev pub reading : List ℕ → ℕ
 reading line = whole (bits line)
+
+-- The bytes of a line that are digits, where it is not held back.
+abbrev pub is_no_space : ℕ → Bool
+is_no_space b = not (b == 32)
+
+-- A reading of 32 bits that moves on by one bit for one digit more.
+abbrev pub with_digit : ℕ → ℕ → ℕ
+with_digit w b = bit_or (w * 2 % 2 ^ 32) (cond (b == 49) 1 0)

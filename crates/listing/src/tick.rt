@@ -1,7 +1,8 @@
 //! Reads a tick line.
-ghost use Rattle.std.specs.Prelude.{◌≡◌, ◌≤◌, map, length};
+ghost use Rattle.std.specs.Prelude.{◌≡◌, map, length, reverse};
+ghost use Rattle.std.specs.List.{filter, fold};
 ghost use Rattle.roster.specs.Rosters.{owned};
-ghost use Rattle.listing.specs.Ticks.{bits, each_fits, groups, is_group as is_a_group, owned_by, whole};
+ghost use Rattle.listing.specs.Ticks.{each_fits, groups, is_group as is_a_group, is_no_space, owned_by, with_digit};
 
 use roster::Signal;
 
@@ -39,13 +40,12 @@ pub(crate) fn do_groups_fit(line: &[u8], signals: &[Signal]) -> bool
     ))
 }
 
-/// The whole reading of a line: its digits from the last, each doubling what stands behind it.
+/// The whole reading of a line: its digits from the last, each as bit 0 before those behind it.
 pub(crate) fn whole_reading(line: &[u8]) -> u32
-    requires { length (bits line.now) ≤ 32 }
-    ensures { result ≡ whole (bits line.now) }
+    ensures { result ≡ fold with_digit 0 (filter is_no_space (reverse line.now)) }
 {
     line.iter()
         .rev()
         .filter(|b| **b != b' ')
-        .fold(0, |reading, b| 2 * reading + u32::from(*b == b'1'))
+        .fold(0, |reading, b| (reading << 1) | u32::from(*b == b'1'))
 }
