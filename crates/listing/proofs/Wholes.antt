@@ -1,8 +1,6 @@
 -- Whole readings and their bits.
-use Rattle.std.proofs.Common.{◌≡◌, ℕ, zero, suc, ◌+◌, ◌*◌, ◌/◌, ◌%◌, ◌^◌, ◌<◌, ◌≤◌, Bool, true, false, cond, eqb, List, [], ◌∷◌, length, get_or, sym, ap, ◌∙◌, ⊎_elim, div-one, one-add, arith, shr-shr}
+use Rattle.std.proofs.Common.{◌≡◌, ℕ, zero, suc, ◌+◌, ◌*◌, ◌/◌, ◌%◌, ◌^◌, ◌<◌, Bool, true, false, cond, eqb, List, [], ◌∷◌, length, get_or, sym, ap, ◌∙◌, div-one, one-add, arith, shr-shr}
 use native.Mathlib.Nat.{pow-succ'}
-use lib.Pow.{pow-lt}
-use Rattle.std.proofs.lemmas.Bool.{cases_order}
 use Rattle.monitor.specs.Monitoring.{bit}
 use Rattle.listing.specs.Ticks.{whole}
 use Rattle.listing.specs.Laws.{WholeMeans}

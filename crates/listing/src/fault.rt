@@ -4,7 +4,7 @@ ghost use Rattle.std.specs.Prelude.{◌≡◌};
 use monitor::Hold;
 
 /// The line has not one group for each post, a group has not one digit for each signal of its post, or the step is held back.
-#[derive(Clone, Copy)]
+#[derive(Clone, Copy, PartialEq, Eq, Debug)]
 pub enum TickFault {
     Groups,
     Digits,

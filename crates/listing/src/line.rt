@@ -8,7 +8,7 @@ use monitor::Verdict;
 use roster::SheetFault;
 
 /// The names of the columns; a tick with the verdict after its step; or a hold with the numbers that it answers.
-#[derive(Clone, Copy)]
+#[derive(Clone, Copy, PartialEq, Eq, Debug)]
 pub enum Line {
     Columns,
     Row {
