@@ -34,13 +34,13 @@ fn is_group(group: &[u8], digits: usize) -> bool
 pub(crate) fn do_groups_fit(line: &[u8], signals: &[Signal]) -> bool
     ensures { result ≡ each_fits (map owned signals.now) 1 (groups line.now) }
 {
-    line.split(|b| *b == b' ').enumerate().all(|(at, group)| is_group(
-        group,
-        count_owned(signals, at + 1),
-    ))
+    line.split(|b| *b == b' ').enumerate().all(|(at, group)| {
+        let post = at + 1;
+        is_group(group, count_owned(signals, post))
+    })
 }
 
-/// The whole reading of a line: its digits from the last, each as bit 0 before those behind it.
+/// The whole reading of a line: each digit, from the last on, moves those behind it up by one bit and becomes bit 0.
 pub(crate) fn whole_reading(line: &[u8]) -> u32
     ensures { result ≡ fold with_digit 0 (filter is_no_space (reverse line.now)) }
 {
