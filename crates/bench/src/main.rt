@@ -7,8 +7,7 @@ use std::io::Read;
 fn main(rt: HostRuntime) -> anyhow::Result<()> {
     let mut input = Vec::new(rt.alloc());
     rt.stdin().read_to_end(&mut input)?;
-    let mut listing = Listing::new(rt.alloc(), &input)?;
-    while let Some(line) = listing.next_line() {
+    for line in Listing::new(rt.alloc(), &input)? {
         println!(rt; "{line}")?;
     }
     Ok(())

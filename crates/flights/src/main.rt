@@ -2,27 +2,23 @@
 #![tactic(auto)]
 
 use listing::Listing;
-use roster::find;
 use std::io::Read;
 
 /// Prints the listing of one input.
 fn print_listing(rt: &HostRuntime, input: &[u8]) -> anyhow::Result<()> {
-    let mut listing = Listing::new(rt.alloc(), input)?;
+    let listing = Listing::new(rt.alloc(), input)?;
     println!(rt; "=")?;
-    while let Some(line) = listing.next_line() {
+    for line in listing {
         println!(rt; "{line}")?;
     }
     Ok(())
 }
 
 fn run(rt: &HostRuntime) -> anyhow::Result<()> {
-    let mut inputs = Vec::new(rt.alloc());
-    rt.stdin().read_to_end(&mut inputs)?;
-    let mut at = 0;
-    while at < inputs.len() {
-        let end = find(&inputs, b'=', at);
-        print_listing(rt, &inputs[at..end])?;
-        at = end + 2;
+    let mut inputs = String::new(rt.alloc());
+    rt.stdin().read_to_string(&mut inputs)?;
+    for input in inputs.as_str().split_terminator("=\n") {
+        print_listing(rt, input.as_bytes())?;
     }
     Ok(())
 }

@@ -2,6 +2,4 @@ pub mod Wholes
 pub mod Splitting
 pub mod Grouping
 pub mod Reading
-pub mod Judging
-pub mod Starting
 pub mod Ordered

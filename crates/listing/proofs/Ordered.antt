@@ -1,6 +1,9 @@
 -- The signals of a sheet stand in the order of their posts.
-use Rattle.std.proofs.Common.{◌≡◌, ℕ, zero, suc, ◌+◌, ◌<◌, ◌≤◌, Bool, true, false, cond, not, eqb, List, [], ◌∷◌, ◌++◌, map, length, drop, replicate, Some, None, Option, sym, refl, ap, ◌∙◌, add-zero, arith}
+use Rattle.std.proofs.Common.{◌≡◌, ℕ, suc, ◌+◌, ◌*◌, ◌<◌, ◌≤◌, Bool, true, false, cond, not, eqb, List, [], ◌∷◌, ◌++◌, map, length, drop, replicate, Some, None, Option, sym, refl, ap, ◌∙◌, add-one, add-zero, arith}
 use Rattle.std.proofs.lemmas.List.{append_assoc, append-nil, length_push, map-append, replicate_more}
+use Rattle.std.specs.List.{count_by}
+use Rattle.std.proofs.lemmas.List.Folds.{fold-map, sum_by-replicate}
+use Rattle.std.proofs.lemmas.List.Sums.{sum_by-append}
 use Rattle.std.proofs.lemmas.Bool.{and_parts, eq-eqb, eqb-true, ne_eqb}
 use Rattle.holds.specs.Order.{first_fit}
 use Rattle.roster.specs.Entries.{Entries, Owned, PostLine, after_post, post_line, with_line, with_post, with_signal, with_signals}
@@ -27,46 +30,31 @@ tagged_more k (d ∷ ds) c =
 
 -- How often a number stands in a list.
 abbrev times : ℕ → List ℕ → ℕ
-times j [] = 0
-times j (x ∷ xs) = cond (eqb x j) 1 0 + times j xs
-
-owned_times : (j : ℕ) (ss : List Owned) → owned_by j ss ≡ times j (owners ss)
-owned_times j [] = refl
-owned_times j (s ∷ ss) = ap (λ n. cond (eqb s.owner j) 1 0 + n) (owned_times j ss)
+times j xs = count_by (λ x. eqb x j) xs
 
 times_append : (j : ℕ) (xs ys : List ℕ) → times j (xs ++ ys) ≡ times j xs + times j ys
-times_append j [] ys = omega arith
-times_append j (x ∷ xs) ys = let h = times_append j xs ys in omega arith
+times_append j xs ys = sum_by-append (λ x. cond (eqb x j) 1 0) xs ys
 
-times_run : (j k c : ℕ) → times j (replicate c k) ≡ cond (eqb k j) c 0
-times_run j k c = go (eqb k j) refl c
-  where
-    go : (t : Bool) → eqb k j ≡ t → (n : ℕ) → times j (replicate n k) ≡ cond t n 0
-    go true e zero = refl
-    go false e zero = refl
-    go true e (suc n) = let h = go true e n in let q = ap (λ b. cond b 1 0 + times j (replicate n k)) e in q ∙ (omega arith)
-    go false e (suc n) = let h = go false e n in let q = ap (λ b. cond b 1 0 + times j (replicate n k)) e in q ∙ (omega arith)
+times_run : (j k c : ℕ) (t : Bool) → eqb k j ≡ t → times j (replicate c k) ≡ c * cond t 1 0
+times_run j k c t e = sum_by-replicate (λ x. cond (eqb x j) 1 0) c k ∙ ap (λ u. c * cond u 1 0) e
 
 times_below : (j k : ℕ) (cs : List ℕ) → j < k → times j (tagged k cs) ≡ 0
 times_below j k [] l = refl
 times_below j k (c ∷ cs) l =
-    let a = times_append j (replicate c k) (tagged (suc k) cs) in
-    let b : times j (replicate c k) ≡ 0 = times_run j k c ∙ ap (λ t. cond t c 0) (ne_eqb k j (λ e. omega arith)) in
+    let b = times_run j k c false (ne_eqb k j (λ e. omega arith)) in
     let h = times_below j (suc k) cs (omega arith) in
-    omega arith
+    omega (arith, times_append j (replicate c k) (tagged (suc k) cs))
 
 times_at : (k : ℕ) (cs : List ℕ) (c : ℕ) → times k (tagged k (c ∷ cs)) ≡ c
 times_at k cs c =
-    let a = times_append k (replicate c k) (tagged (suc k) cs) in
-    let b : times k (replicate c k) ≡ c = times_run k k c ∙ ap (λ t. cond t c 0) (eq-eqb k k refl) in
+    let b = times_run k k c true (eq-eqb k k refl) in
     let h = times_below k (suc k) cs (omega arith) in
-    omega arith
+    omega (arith, times_append k (replicate c k) (tagged (suc k) cs))
 
 times_past : (j k : ℕ) (cs : List ℕ) (c : ℕ) → k < j → times j (tagged k (c ∷ cs)) ≡ times j (tagged (suc k) cs)
 times_past j k cs c l =
-    let a = times_append j (replicate c k) (tagged (suc k) cs) in
-    let b : times j (replicate c k) ≡ 0 = times_run j k c ∙ ap (λ t. cond t c 0) (ne_eqb k j (λ e. omega arith)) in
-    omega arith
+    let b = times_run j k c false (ne_eqb k j (λ e. omega arith)) in
+    omega (arith, times_append j (replicate c k) (tagged (suc k) cs))
 
 -- Groups that fit are as long as counted.
 fit_counts : (ss : List Owned) (k : ℕ) (gs : List (List ℕ)) (cs : List ℕ) → ((j : ℕ) → k ≤ j → owned_by j ss ≡ times j (tagged k cs)) → each_fits ss k gs ≡ true → length gs ≡ length cs → digit_groups k gs ≡ tagged k cs
@@ -74,10 +62,11 @@ fit_counts ss k [] [] h e l = refl
 fit_counts ss k [] (c ∷ cs) h e l = absurd (omega arith)
 fit_counts ss k (g ∷ gs) [] h e l = absurd (omega arith)
 fit_counts ss k (g ∷ gs) (c ∷ cs) h e l =
-    let p = and_parts (is_group (owned_by k ss) g) (each_fits ss (suc k) gs) e in
+    let p = and_parts (is_group (owned_by k ss) g) (each_fits ss (k + 1) gs) e in
+    let f : each_fits ss (suc k) gs ≡ true = ap (λ j. each_fits ss j gs) (sym (add-one k)) ∙ p.1 in
     let n = eqb-true (length g) (owned_by k ss) (and_parts (eqb (length g) (owned_by k ss)) _ p.0).0 in
     let m : length g ≡ c = n ∙ h k (omega arith) ∙ times_at k cs c in
-    let r = fit_counts ss (suc k) gs cs (λ j q. h j (omega arith) ∙ times_past j k cs c q) p.1 (omega arith) in
+    let r = fit_counts ss (suc k) gs cs (λ j q. h j (omega arith) ∙ times_past j k cs c q) f (omega arith) in
     ap (λ z. replicate (length g) k ++ z) r ∙ ap (λ z. replicate z k ++ tagged (suc k) cs) m
 
 -- The owners are the posts in order, each as often as it has signals.
@@ -155,5 +144,5 @@ digits_are_signals sheet line h =
     let e = (said sheet).entries in
     let o = said_in_order sheet in
     let a = accepted e line h in
-    fit_counts e.signals 1 (groups line) o.counts (λ j q. owned_times j e.signals ∙ ap (times j) o.are) a.1 (a.0 ∙ sym o.long)
+    fit_counts e.signals 1 (groups line) o.counts (λ j q. sym (fold-map (λ a x. a + cond (eqb x j) 1 0) (λ s. s.owner) 0 e.signals) ∙ ap (times j) o.are) a.1 (a.0 ∙ sym o.long)
     ∙ sym o.are

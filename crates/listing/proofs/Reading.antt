@@ -1,41 +1,54 @@
 -- A whole reading that grows from the last digit on.
-use Rattle.std.proofs.Common.{◌≡◌, ℕ, ◌+◌, ◌-◌, ◌*◌, ◌^◌, ◌<◌, ◌≤◌, Bool, true, false, cond, eqb, List, ◌∷◌, length, get_or, drop, sym, refl, ap, ◌∙◌, arith}
-use mir.Val.{bool_byte}
-use Rattle.std.proofs.lemmas.List.{at_drop_more, at_drop_all}
-use Rattle.std.proofs.lemmas.Bool.{eq-eqb, ne_eqb}
-use Rattle.listing.specs.Ticks.{bits, whole}
-use Rattle.listing.proofs.Grouping.{bits_cons, bits_left}
-use Rattle.listing.proofs.Wholes.{whole_small}
+use Rattle.std.proofs.Common.{◌≡◌, ℕ, ◌+◌, ◌*◌, ◌%◌, ◌^◌, ◌<◌, ◌≤◌, Bool, true, false, cond, eqb, List, [], ◌∷◌, ◌++◌, map, length, reverse, bit_or, sym, refl, ap, ◌∙◌, arith}
+use Rattle.std.specs.List.{filter, fold}
+use Rattle.std.proofs.Math.Nat.{pow-le-pow_right}
+use Rattle.std.proofs.lemmas.Nat.{or_shifted}
+use Rattle.std.proofs.lemmas.List.{append-nil, length-map, reverse-append}
+use Rattle.std.proofs.lemmas.List.Elements.{filter-append}
+use Rattle.std.proofs.lemmas.List.Sums.{fold_push}
+use Rattle.listing.specs.Ticks.{bits, is_no_space, whole, with_digit}
+use Rattle.listing.proofs.Grouping.{bits_kept}
+use Rattle.listing.proofs.Wholes.{whole_below}
 
-pub reading_none : (bs : List ℕ) → 0 ≡ whole (bits (drop (length bs) bs))
-reading_none bs = sym (at_drop_all (λ z. whole (bits z)) bs (length bs) (omega arith))
+filter-reverse : (t : ℕ → Bool) (bs : List ℕ) → filter t (reverse bs) ≡ reverse (filter t bs)
+filter-reverse t [] = refl
+filter-reverse t (c ∷ cs) =
+    ap (filter t) (reverse-append (c ∷ []) cs) ∙ filter-append t (reverse cs) (c ∷ []) ∙ ap (λ z. z ++ filter t (c ∷ [])) (filter-reverse t cs)
+    ∙ go (t c)
+  where
+    go : (u : Bool) → reverse (filter t cs) ++ cond u (c ∷ []) [] ≡ reverse (cond u (c ∷ filter t cs) (filter t cs))
+    go true = sym (reverse-append (c ∷ []) (filter t cs))
+    go false = append-nil (reverse (filter t cs))
 
-byte_is : (b : Bool) → bool_byte b ≡ cond b 1 0
-byte_is true = refl
-byte_is false = refl
+-- One digit more, in 32 bits.
+one_more : (w : ℕ) (t : Bool) → w < 2 ^ 31 → bit_or (w * 2 % 2 ^ 32) (cond t 1 0) ≡ cond t 1 0 + 2 * w
+one_more w t l =
+    let small : w * 2 % 2 ^ 32 ≡ w * 2 = omega arith in
+    let low = below t in
+    ap (λ n. bit_or n (cond t 1 0)) small ∙ or_shifted w 1 (cond t 1 0) low ∙ (omega arith)
+  where
+    below : (u : Bool) → cond u 1 0 < 2
+    below true = omega arith
+    below false = omega arith
 
--- One byte before i, where r is the reading of what stands from i on.
-module _ (bs : List ℕ) (i r : ℕ) (some : 0 < i) (within : i ≤ length bs) (so_far : r ≡ whole (bits (drop i bs))) where
-  one_more : (t : Bool) → eqb (get_or bs (i - 1) 0) 32 ≡ t → whole (bits (drop (i - 1) bs)) ≡ whole (cond t (bits (drop i bs)) (eqb (get_or bs (i - 1) 0) 49 ∷ bits (drop i bs)))
-  one_more t e =
-      let k : i - 1 + 1 ≡ i = omega arith in
-      at_drop_more (λ z. whole (bits z)) bs (i - 1) 0 (omega arith)
-      ∙ ap (λ j. whole (bits (get_or bs (i - 1) 0 ∷ drop j bs))) k
-      ∙ ap whole (bits_cons (get_or bs (i - 1) 0) (drop i bs))
-      ∙ ap (λ u. whole (cond u (bits (drop i bs)) (eqb (get_or bs (i - 1) 0) 49 ∷ bits (drop i bs)))) e
+abbrev is_on : ℕ → Bool
+is_on b = eqb b 49
 
-  pub past_space : get_or bs (i - 1) 0 ≡ 32 → r ≡ whole (bits (drop (i - 1) bs))
-  past_space e = so_far ∙ sym (one_more true (eq-eqb _ _ e))
-
-  module _ (other : get_or bs (i - 1) 0 ≡ 32 → ⊥) (d : ℕ) (digit : d ≡ bool_byte (eqb (get_or bs (i - 1) 0) 49)) where
-    pub past_digit : 2 * r + d ≡ whole (bits (drop (i - 1) bs))
-    past_digit =
-        let e = one_more false (ne_eqb _ _ other) in
-        let q = digit ∙ byte_is (eqb (get_or bs (i - 1) 0) 49) in
+fold-reverse : (ds : List ℕ) → length ds ≤ 32 → fold with_digit 0 (reverse ds) ≡ whole (map is_on ds)
+fold-reverse [] l = refl
+fold-reverse (d ∷ ds) l =
+    ap (fold with_digit 0) (reverse-append (d ∷ []) ds) ∙ fold_push with_digit 0 (reverse ds) d
+    ∙ ap (λ w. with_digit w d) (fold-reverse ds (omega arith)) ∙ one_more (whole (map is_on ds)) (eqb d 49) few
+  where
+    few : whole (map is_on ds) < 2 ^ 31
+    few =
+        let w = whole_below (map is_on ds) in
+        let m : length (map is_on ds) ≤ 31 = omega (arith, length-map ds is_on) in
+        let p : 2 ^ length (map is_on ds) ≤ 2 ^ 31 = pow-le-pow_right (omega arith) m in
         omega arith
 
-    pub no_overflow : length (bits bs) ≤ 32 → 2 * r + d < 2 ^ 32
-    no_overflow few =
-        let h = whole_small (bits (drop (i - 1) bs)) 32 (let l = bits_left (i - 1) bs in omega arith) in
-        let e = past_digit in
-        omega arith
+pub fold_line : (line : List ℕ) → length (bits line) ≤ 32 → fold with_digit 0 (filter is_no_space (reverse line)) ≡ whole (bits line)
+fold_line line l =
+    let k = ap length (bits_kept line) in
+    let m = length-map (filter is_no_space line) is_on in
+    ap (fold with_digit 0) (filter-reverse is_no_space line) ∙ fold-reverse (filter is_no_space line) (omega arith) ∙ ap whole (sym (bits_kept line))

@@ -1,8 +1,6 @@
 -- Whole readings and their bits.
-use Rattle.std.proofs.Common.{◌≡◌, ℕ, zero, suc, ◌+◌, ◌*◌, ◌/◌, ◌%◌, ◌^◌, ◌<◌, ◌≤◌, Bool, true, false, cond, eqb, List, [], ◌∷◌, length, get_or, sym, ap, ◌∙◌, ⊎_elim, div-one, one-add, arith, shr-shr}
+use Rattle.std.proofs.Common.{◌≡◌, ℕ, zero, suc, ◌+◌, ◌*◌, ◌/◌, ◌%◌, ◌^◌, ◌<◌, Bool, true, false, cond, eqb, List, [], ◌∷◌, length, get_or, sym, ap, ◌∙◌, div-one, one-add, arith, shr-shr}
 use native.Mathlib.Nat.{pow-succ'}
-use lib.Pow.{pow-lt}
-use Rattle.std.proofs.lemmas.Bool.{cases_order}
 use Rattle.monitor.specs.Monitoring.{bit}
 use Rattle.listing.specs.Ticks.{whole}
 use Rattle.listing.specs.Laws.{WholeMeans}
@@ -32,11 +30,3 @@ bits_are (b ∷ bs) (suc j) l =
 
 pub whole_means : WholeMeans
 whole_means bs = (whole_below bs, bits_are bs)
-
--- Few digits make a small number.
-pub whole_small : (bs : List Bool) (n : ℕ) → length bs ≤ n → whole bs < 2 ^ n
-whole_small bs n l =
-    let h = whole_below bs in
-    ⊎_elim (λ e. let q = ap (λ k. 2 ^ k) e in omega arith)
-    (⊎_elim (λ m. let q = pow-lt m in omega arith) (λ m. absurd (omega arith)))
-    (cases_order (length bs) n)

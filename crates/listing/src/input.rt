@@ -1,20 +1,35 @@
-//! Where the sheet of an input ends.
-ghost use Rattle.std.specs.Prelude.{◌≡◌, ◌+◌, ◌≤◌, length, take, drop};
+//! Where the sheet of an input ends, and where a line ends.
+ghost use Rattle.std.specs.Prelude.{◌≡◌, [], ◌∷◌, IfNone, IfSome};
+ghost use Rattle.sheet.specs.Texts.{lines};
 ghost use Rattle.listing.specs.Inputs.{sheet_part, ticks_part};
 
-/// The place of the empty line behind the sheet; the input's length where there is none.
-pub(crate) fn sheet_end(input: &[u8]) -> usize
-    ensures bound { result ≤ length input.now }
-    ensures sheet { take result input.now ≡ sheet_part input.now }
-    ensures ticks { drop (result + 1) input.now ≡ ticks_part input.now }
+use std::iter::once;
+
+/// What stands before the first empty line, the sheet, and what stands behind it, the tick lines.
+pub(crate) fn split_input(input: &[u8]) -> (&[u8], &[u8])
+    ensures sheet { result.0.now ≡ sheet_part input.now }
+    ensures ticks { result.1.now ≡ ticks_part input.now }
 {
-    let mut begins = true;
-    for (at, b) in input.iter().enumerate() {
-        let ends = *b == b'\n';
-        if begins && ends {
-            return at;
-        }
-        begins = ends;
+    let before = once(b'\n').chain(input.iter().copied());
+    let empty = before
+        .zip(input)
+        .position(|(before, b)| before == b'\n' && *b == b'\n');
+    match empty {
+        Some(at) => (&input[..at], &input[at + 1..]),
+        None => (input, &[]),
     }
-    input.len()
+}
+
+/// The first line and what stands behind it; an empty text has none.
+pub(crate) fn split_line(text: &[u8]) -> Option<(&[u8], &[u8])>
+    ensures none { IfNone result (text.now ≡ []) }
+    ensures some { IfSome result (λ p. lines text.now ≡ p.0.now ∷ lines p.1.now) }
+{
+    if text.is_empty() {
+        return None;
+    }
+    match text.iter().position(|b| *b == b'\n') {
+        Some(end) => Some((&text[..end], &text[end + 1..])),
+        None => Some((text, &[])),
+    }
 }

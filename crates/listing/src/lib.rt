@@ -3,12 +3,10 @@
 
 mod fault;
 mod flight;
-mod flights;
 mod input;
 mod laws;
 mod line;
 mod listing;
-mod listings;
 mod text;
 mod tick;
 

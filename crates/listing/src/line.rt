@@ -1,8 +1,14 @@
 //! A line of a listing.
+ghost use Rattle.std.specs.Prelude.{◌≡◌};
+ghost use Rattle.holds.specs.Cases.{plain};
+ghost use Rattle.roster.specs.Faults.{answered};
+
+use crate::fault::TickFault;
 use monitor::Verdict;
+use roster::SheetFault;
 
 /// The names of the columns; a tick with the verdict after its step; or a hold with the numbers that it answers.
-#[derive(Clone, Copy)]
+#[derive(Clone, Copy, PartialEq, Eq, Debug)]
 pub enum Line {
     Columns,
     Row {
@@ -14,4 +20,33 @@ pub enum Line {
         line: Option<usize>,
         word: Option<usize>,
     },
+}
+
+impl From<SheetFault> for Line {
+    ghost use Rattle.listing.specs.Listings.{held};
+
+    ghost from_gives = { λ fault line. line ≡ held (answered fault) };
+
+    fn from(fault: SheetFault) -> Line {
+        Line::Held {
+            number: fault.number(),
+            line: fault.line(),
+            word: fault.word(),
+        }
+    }
+}
+
+impl From<TickFault> for Line {
+    ghost use Rattle.listing.specs.Faults.{fault_number};
+    ghost use Rattle.listing.specs.Listings.{held};
+
+    ghost from_gives = { λ fault line. line ≡ held (plain (fault_number fault)) };
+
+    fn from(fault: TickFault) -> Line {
+        Line::Held {
+            number: fault.number(),
+            line: None,
+            word: None,
+        }
+    }
 }

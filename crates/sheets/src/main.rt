@@ -11,17 +11,14 @@ use std::alloc::{AllocError, Global};
 
 /// The bytes of a sheet as a line writes them: `/` is a line end, `~` byte 200, `^` a tab; all else stands for itself.
 fn decoded(heap: Global, line: &str) -> Result<Vec<u8>, AllocError> {
-    let mut bytes = Vec::new(heap);
-    for b in line.bytes() {
-        let byte = match b {
+    line.bytes()
+        .map(|b| match b {
             b'/' => b'\n',
             b'~' => 200,
             b'^' => b'\t',
             other => other,
-        };
-        bytes.push(byte)?;
-    }
-    Ok(bytes)
+        })
+        .collect(heap)
 }
 
 /// Prints a hold: its number, and its line and word where it has them.
@@ -51,13 +48,11 @@ fn print_reading(rt: &HostRuntime, line: &str, number: u32) -> anyhow::Result<()
 }
 
 fn run(rt: &HostRuntime) -> anyhow::Result<()> {
-    let mut number = 0u32;
-    for line in rt.lines(rt.alloc()) {
-        let text = line?;
-        if !text.as_str().starts_with('#') {
-            number = number.saturating_add(1);
-            print_reading(rt, text.as_str(), number)?;
-        }
+    let sheets = rt.lines(rt.alloc()).filter(
+        |line| !matches!(line, Ok(text) if text.as_str().starts_with('#')),
+    );
+    for (number, line) in (1u32..).zip(sheets) {
+        print_reading(rt, line?.as_str(), number)?;
     }
     Ok(())
 }

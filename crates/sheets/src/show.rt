@@ -3,23 +3,13 @@ use parts::{Binary, Junction, Part, Unary};
 use roster::{Post, Signal};
 use rule::Rule;
 use sheet::Sheet;
-use words::Name;
-
-/// Prints a name.
-fn print_name(rt: &HostRuntime, name: &Name) -> anyhow::Result<()> {
-    for b in name.as_bytes() {
-        let c = *b as char;
-        print!(rt; "{c}")?;
-    }
-    Ok(())
-}
 
 /// Prints the posts' names.
 fn print_posts(rt: &HostRuntime, posts: &[Post]) -> anyhow::Result<()> {
     for (i, post) in posts.iter().enumerate() {
         let before = if i == 0 { " " } else { "," };
-        print!(rt; "{before}")?;
-        print_name(rt, &post.name)?;
+        let name = post.name.as_bytes().escape_ascii();
+        print!(rt; "{before}{name}")?;
     }
     Ok(())
 }
@@ -28,10 +18,9 @@ fn print_posts(rt: &HostRuntime, posts: &[Post]) -> anyhow::Result<()> {
 fn print_signals(rt: &HostRuntime, signals: &[Signal]) -> anyhow::Result<()> {
     for (i, signal) in signals.iter().enumerate() {
         let before = if i == 0 { " " } else { "," };
-        print!(rt; "{before}")?;
-        print_name(rt, &signal.name)?;
+        let name = signal.name.as_bytes().escape_ascii();
         let owner = signal.owner;
-        print!(rt; ":{owner}")?;
+        print!(rt; "{before}{name}:{owner}")?;
     }
     Ok(())
 }

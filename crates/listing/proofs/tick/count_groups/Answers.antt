@@ -1,14 +1,10 @@
-use Rattle.std.proofs.Common.{arith}
-use Rattle.listing.proofs.Grouping.{group_last, group_more, group_same}
+use Rattle.std.proofs.Common.{rules, eqb}
+use Rattle.std.proofs.lemmas.Iterator.Consumers.{count_from_yields_List}
+use Rattle.std.proofs.lemmas.Iterator.Splits.{YieldsList-from_slice_split}
+use borrow.Author.Tests.{tests}
 use Rattle.listing.proofs.tick.count_groups.Goals as goal
-use Rattle.listing.proofs.tick.count_groups.Goals.{then-b-eq32, else-b-eq32}
-
-pub loop-b-preserved : goal.loop-b-preserved
-loop-b-preserved c =
-    elim c.if-b-eq32.branch [
-      | then-b-eq32 w ↦ (let e = group_more c.args.line.now c.loop-b.b-index c.loop-b-test.true w.if-b-eq32.true in omega (arith, c.loop-b.invariant, w.spaces-is))
-      | else-b-eq32 w ↦ (let e = group_same c.args.line.now c.loop-b.b-index c.loop-b-test.true w.if-b-eq32.false in omega (arith, c.loop-b.invariant, w.spaces-is))
-    ]
 
 pub returns : goal.returns
-returns c = let e = group_last c.args.line.now c.loop-b.b-index (omega arith) in omega (arith, c.loop-b.invariant.0)
+returns c =
+    count_from_yields_List c.split.result c.count.result c.count.ensures.ran
+    (YieldsList-from_slice_split _ (λ b. eqb b 32) c.args.line.now c.split.ensures.rest c.split.ensures.done c.split.ensures.closure (λ x b q k. search (rules, tests)))
