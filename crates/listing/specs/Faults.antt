@@ -3,7 +3,8 @@ use Rattle.std.specs.Prelude.{◌≡◌, ℕ, List, [], ◌∷◌, Some, None, O
 use Rattle.holds.specs.Order.{first_fit}
 use Rattle.holds.specs.Cases.{plain}
 use Rattle.roster.specs.Entries.{Entries}
-use Rattle.monitor.specs.Monitoring.{State, number}
+use Rattle.monitor.specs.Monitoring.{State}
+use Rattle.monitor.specs.Verdicts.{number}
 use Rattle.listing.specs.Listings.{held, rows}
 use Rattle.listing.specs.Ticks.{reading, tick_holds}
 use Rattle.listing.specs.declared.fault.TickFault.{TickFault}

@@ -6,8 +6,7 @@ use Rattle.holds.specs.Cases.{Hold, plain}
 use Rattle.roster.specs.Entries.{Entries}
 use Rattle.sheet.specs.Texts.{Draft, lines, said, sheet_hold}
 use Rattle.monitor.specs.Monitoring.{State, fresh, step_hold, stepped, verdict_of}
-use Rattle.monitor.specs.declared.verdict.Verdict.{Verdict}
-use Rattle.monitor.specs.declared.verdict.Verdict.TheVariants.{False, True, Undecided}
+use Rattle.monitor.specs.Verdicts.{verdict_letter}
 use Rattle.listing.specs.Inputs.{sheet_part, ticks_part}
 use Rattle.listing.specs.Ticks.{reading, tick_holds}
 use Rattle.listing.specs.declared.line.Line.{Line}
@@ -49,12 +48,6 @@ abbrev pub listing : List ℕ → List Line
 listing input =
     listed (sheet_hold (sheet_part input)) (sheet_rows (said (sheet_part input)) (lines (ticks_part input)))
 
--- How a verdict is printed: T, F or ?
-abbrev pub letter : Verdict → List ℕ
-letter True = codes "T"
-letter False = codes "F"
-letter Undecided = codes "?"
-
 -- A space and a number, where there is one.
 abbrev pub spaced : Option ℕ → List ℕ
 spaced None = []
@@ -63,5 +56,5 @@ spaced (Some n) = codes " " ++ decimal n
 -- The bytes of a line, without its line end.
 abbrev pub line_text : Line → List ℕ
 line_text Columns = codes "tick whole"
-line_text (Row tick verdict) = decimal tick ++ (codes " " ++ letter verdict)
+line_text (Row tick verdict) = decimal tick ++ (codes " " ++ verdict_letter verdict)
 line_text (Held number line word) = codes "hold " ++ (decimal number ++ (spaced line ++ spaced word))

@@ -7,7 +7,6 @@ mod input;
 mod laws;
 mod line;
 mod listing;
-mod text;
 mod tick;
 
 pub use laws::{digits_are_signals, whole_means};

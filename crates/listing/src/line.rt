@@ -6,6 +6,7 @@ ghost use Rattle.roster.specs.Faults.{answered};
 use crate::fault::TickFault;
 use monitor::Verdict;
 use roster::SheetFault;
+use std::fmt;
 
 /// The names of the columns; a tick with the verdict after its step; or a hold with the numbers that it answers.
 #[derive(Clone, Copy, PartialEq, Eq, Debug)]
@@ -47,6 +48,43 @@ impl From<TickFault> for Line {
             number: fault.number(),
             line: None,
             word: None,
+        }
+    }
+}
+
+/// A space and a number, where there is one.
+#[derive(Clone, Copy)]
+struct Spaced(Option<usize>);
+
+impl fmt::Display for Spaced {
+    ghost use Rattle.std.specs.Prelude.{Some};
+    ghost use Rattle.listing.specs.Listings.{spaced};
+
+    ghost output = { λ s. Some (spaced s.0) };
+
+    fn fmt<W: fmt::Write>(&self, f: &mut fmt::Formatter<W>) -> fmt::Result {
+        match self.0 {
+            Some(n) => write!(f, " {n}"),
+            None => Ok(()),
+        }
+    }
+}
+
+impl fmt::Display for Line {
+    ghost use Rattle.std.specs.Prelude.{Some};
+    ghost use Rattle.listing.specs.Listings.{line_text};
+
+    ghost output = { λ l. Some (line_text l) };
+
+    fn fmt<W: fmt::Write>(&self, f: &mut fmt::Formatter<W>) -> fmt::Result {
+        match *self {
+            Line::Columns => f.write_str("tick whole"),
+            Line::Row { tick, verdict } => write!(f, "{tick} {verdict}"),
+            Line::Held { number, line, word } => {
+                let line = Spaced(line);
+                let word = Spaced(word);
+                write!(f, "hold {number}{line}{word}")
+            }
         }
     }
 }

@@ -36,7 +36,7 @@ fn print_fault(rt: &HostRuntime, fault: SheetFault) -> anyhow::Result<()> {
 }
 
 /// Reads one sheet.
-fn print_reading(rt: &HostRuntime, line: &str, number: u32) -> anyhow::Result<()> {
+fn print_reading(rt: &HostRuntime, line: &str, number: u64) -> anyhow::Result<()> {
     let heap = rt.alloc();
     let text = decoded(heap, line)?;
     let blank = Blank::new(heap)?;
@@ -51,7 +51,7 @@ fn run(rt: &HostRuntime) -> anyhow::Result<()> {
     let sheets = rt.lines(rt.alloc()).filter(
         |line| !matches!(line, Ok(text) if text.as_str().starts_with('#')),
     );
-    for (number, line) in (1u32..).zip(sheets) {
+    for (number, line) in (1u64..).zip(sheets) {
         print_reading(rt, line?.as_str(), number)?;
     }
     Ok(())

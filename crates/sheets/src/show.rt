@@ -1,5 +1,5 @@
 //! What a sheet says, in one line.
-use parts::{Binary, Junction, Part, Unary};
+use parts::Part;
 use roster::{Post, Signal};
 use rule::Rule;
 use sheet::Sheet;
@@ -25,46 +25,22 @@ fn print_signals(rt: &HostRuntime, signals: &[Signal]) -> anyhow::Result<()> {
     Ok(())
 }
 
-fn prefix(sign: Unary) -> char {
-    match sign {
-        Unary::Not => '!',
-        Unary::Next => 'X',
-        Unary::Finally => 'F',
-        Unary::Globally => 'G',
-    }
-}
-
-fn infix(sign: Binary) -> char {
-    match sign {
-        Binary::Join(Junction::And) => '&',
-        Binary::Join(Junction::Or) => '|',
-        Binary::Until => 'U',
-    }
-}
-
 /// Prints a part, its operands by their numbers.
 fn print_part(rt: &HostRuntime, part: Part) -> anyhow::Result<()> {
     match part {
         Part::Const(value) => print!(rt; " {value}")?,
         Part::Signal(p) => print!(rt; " p{p}")?,
         Part::Open(p, tick) => print!(rt; " p{p}@{tick}")?,
-        Part::One(sign, a) => {
-            let c = prefix(sign);
-            print!(rt; " {c}{a}")?
-        }
-        Part::Two(sign, a, b) => {
-            let c = infix(sign);
-            print!(rt; " {a}{c}{b}")?
-        }
+        Part::One(sign, a) => print!(rt; " {sign}{a}")?,
+        Part::Two(sign, a, b) => print!(rt; " {a}{sign}{b}")?,
     }
     Ok(())
 }
 
 /// Prints the parts of a rule in the walk's order.
 fn print_rule(rt: &HostRuntime, rule: &Rule) -> anyhow::Result<()> {
-    let formula = rule.formula();
-    for at in 0..formula.count() {
-        print_part(rt, formula.part(at as u16))?;
+    for part in rule.formula().parts() {
+        print_part(rt, *part)?;
     }
     Ok(())
 }
