@@ -3,12 +3,13 @@ ghost use Rattle.std.specs.Prelude.{◌≡◌, ◌+◌, ◌<◌, ◌≤◌, leng
 ghost use Rattle.parts.specs.Places.{in_use, room, AllShort, NoneTwice, OperandsFirst};
 
 use crate::part::{Binary, Part, Unary};
-use crate::shape::{self, Shape};
+use crate::shape::Shape;
 
 /// How many parts may be in use.
 pub const ROOM: usize = 768;
 
 /// Of the places the first `used` are in use. The two are lent apart, since a guard may hold the count while parts are made.
+// Each function that takes it as `&mut` says that what is lent stays the same (`SameLoan`): the lender is told so by that alone.
 #[derive(Drop)]
 pub struct Lent<'a> {
     pub places: &'a mut Vec<Part>,
@@ -71,8 +72,7 @@ impl Lent<'_> {
         ensures loan { SameLoan self.old self.new }
         ensures interned { Interned (parts_in self.old) (parts_in self.new) (oneˢ sign (formula (parts_in self.old) x)) result }
     {
-        let shape = shape::unary(&self.places[0..*self.used], sign, x);
-        self.intern(shape)
+        self.intern(self.unary_shape(sign, x))
     }
 
     /// The place of and, or or U over the parts at `x` and `y`, shortened; `None` where there is no room for it.
@@ -82,8 +82,7 @@ impl Lent<'_> {
         ensures loan { SameLoan self.old self.new }
         ensures interned { Interned (parts_in self.old) (parts_in self.new) (twoˢ sign (formula (parts_in self.old) x) (formula (parts_in self.old) y)) result }
     {
-        let shape = shape::binary(&self.places[0..*self.used], sign, x, y);
-        self.intern(shape)
+        self.intern(self.binary_shape(sign, x, y))
     }
 
     /// The place of a constant, a signal or an open reading, where there is room for one part more.
