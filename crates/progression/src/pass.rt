@@ -10,7 +10,7 @@ use parts::Lent;
 /// Rewrites every part in use, operands before their users; `images` then has the place of what became of each.
 pub fn rewrite_all<R: Rewrite>(lent: &mut Lent<'_>, by: &R, images: &mut Vec<u16>)
     requires few { length (parts_in lent.old) ≤ 256 }
-    requires images { 256 ≤ vec_capacity images.old }
+    requires images { length (parts_in lent.old) ≤ vec_capacity images.old }
     ensures loan { SameLoan lent.old lent.new }
     ensures grown { Grown (2 * length (parts_in lent.old)) (parts_in lent.old) (parts_in lent.new) }
     ensures imaged { Imaged (R.to by.now) (parts_in lent.new) images.new.items }
