@@ -24,7 +24,7 @@ pub struct Table {
 impl Table {
     ghost use Rattle.std.specs.Prelude.{◌<◌, [], ◌∷◌, ◌++◌, length, take, IfOk, slice_index_or};
     ghost use Rattle.temporal.specs.Formula.Formula.{const, signal as signal_of, reading};
-    ghost use Rattle.parts.specs.Places.{Interned, Sound, blank, formula, oneˢ, twoˢ};
+    ghost use Rattle.parts.specs.Places.{Interned, Sound, blank, formula, leaf, oneˢ, reach, twoˢ};
     ghost use Rattle.parts.specs.Tables.{parts_of};
 
     /// An empty table; all its memory is taken here.
@@ -57,37 +57,37 @@ impl Table {
         self.places[at as usize]
     }
 
-    /// The place of a constant; `None` where there is no room for it.
-    pub fn constant(&mut self, value: bool) -> Option<u16>
-        ensures { Interned (parts_of self.old) (parts_of self.new) (const value) result }
+    /// The place of a part without operands; `None` where there is no room for it.
+    fn leaf(&mut self, part: Part) -> Option<u16>
+        requires { reach part ≡ 0 }
+        ensures { Interned (parts_of self.old) (parts_of self.new) (leaf part) result }
     {
         let mut lent = Lent {
             places: &mut self.places,
             used: &mut self.used,
         };
-        lent.intern(Shape::Is(Part::Const(value)))
+        lent.intern(Shape::Is(part))
+    }
+
+    /// The place of a constant; `None` where there is no room for it.
+    pub fn constant(&mut self, value: bool) -> Option<u16>
+        ensures { Interned (parts_of self.old) (parts_of self.new) (const value) result }
+    {
+        self.leaf(Part::Const(value))
     }
 
     /// The place of a signal; `None` where there is no room for it.
     pub fn signal(&mut self, p: u8) -> Option<u16>
         ensures { Interned (parts_of self.old) (parts_of self.new) (signal_of p) result }
     {
-        let mut lent = Lent {
-            places: &mut self.places,
-            used: &mut self.used,
-        };
-        lent.intern(Shape::Is(Part::Signal(p)))
+        self.leaf(Part::Signal(p))
     }
 
     /// The place of the open reading of a signal at a tick; `None` where there is no room for it.
     pub fn open(&mut self, p: u8, tick: u32) -> Option<u16>
         ensures { Interned (parts_of self.old) (parts_of self.new) (reading p tick) result }
     {
-        let mut lent = Lent {
-            places: &mut self.places,
-            used: &mut self.used,
-        };
-        lent.intern(Shape::Is(Part::Open(p, tick)))
+        self.leaf(Part::Open(p, tick))
     }
 
     /// The place of not, X, F or G over the part at `x`, shortened; `None` where there is no room for it.
