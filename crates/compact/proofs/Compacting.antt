@@ -126,11 +126,11 @@ fresh_walked b ps qs (Some i) e (d, same) =
 
 -- A rewriting of every part: what became of the last formula.
 pub top_stands : (ps qs : List Part) (to : Formula → Formula) (images : List ℕ) (n top : ℕ) → 0 < length ps → n ≡ length ps
-    → Grown (2 * length ps) ps qs → length images ≡ length ps → Imaged to qs images → top ≡ get_or images (n - 1) 0 → Stands qs (to (final (formulas ps))) top
-top_stands ps qs to images n top h e grown m done at =
+    → Grown (2 * length ps) ps qs → Imaged to qs images (length ps) → top ≡ get_or images (n - 1) 0 → Stands qs (to (final (formulas ps))) top
+top_stands ps qs to images n top h e grown done at =
     let l : n - 1 < length ps = omega arith in
     subst (Stands qs (to (final (formulas ps)))) (sym at)
-    (subst (λ f. Stands qs (to f) (get_or images (n - 1) 0)) (formula_front ps qs (n - 1) grown.front l ∙ last_formula ps n h e) (done (n - 1) (omega arith)))
+    (subst (λ f. Stands qs (to f) (get_or images (n - 1) 0)) (formula_front ps qs (n - 1) grown.front l ∙ last_formula ps n h e) (done (n - 1) l))
 
 -- What the table is once it has adopted what was written.
 pub adopted : (f : Formula) (ps qs : List Part) (r : ℕ) → formulas qs ≡ parts f → ps ≡ qs → length qs ≡ r → r ≤ 256

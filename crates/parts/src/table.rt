@@ -128,10 +128,10 @@ impl Table {
         at as u16
     }
 
-    /// Takes the parts of another table for its own, and leaves it its own.
+    /// Takes what another table has for its own, and leaves it its own.
     pub fn adopt(&mut self, other: &mut Table)
-        ensures parts { parts_of self.new ≡ parts_of other.old }
-        ensures other { parts_of other.new ≡ parts_of self.old }
+        ensures this { self.new ≡ other.old }
+        ensures other { other.new ≡ self.old }
     {
         std::mem::swap(self, other);
     }

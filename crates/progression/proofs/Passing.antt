@@ -1,6 +1,6 @@
 -- What a step or a closing makes of one part.
-use Rattle.std.proofs.Common.{◌≡◌, ℕ, ◌<◌, ◌≤◌, List, [], ◌∷◌, ◌++◌, length, get_or, sym, refl, ap, ◌∙◌, subst, ap₂, arith, below_more}
-use Rattle.std.proofs.lemmas.List.{length_push, get_or_push, get_or_append_left}
+use Rattle.std.proofs.Common.{◌≡◌, ℕ, ◌+◌, ◌<◌, ◌≤◌, List, [], ◌∷◌, ◌++◌, length, get_or, sym, refl, ap, ◌∙◌, subst, ap₂, arith, below_more}
+use Rattle.std.proofs.lemmas.List.{get_or_push, get_or_append_left}
 use Rattle.temporal.specs.Formula.{Formula}
 use Rattle.temporal.specs.Shorten.{negˢ, joinˢ}
 use Rattle.temporal.specs.Progress.{step, close}
@@ -35,7 +35,7 @@ left_alone to n ps i p s h e q =
     let f = formula_part ps i s.ordered h p (sym e) in
     made_here n ps (to (formula ps i)) i s h (f ∙ q ∙ sym (ap to f))
 
-module _ (σ : ℕ → Formula) (ps qs : List Part) (images : List ℕ) (i : ℕ) (s : Sound ps) (h : i < length ps) (l : i ≤ length images) (done : Imaged (step σ) ps images) where
+module _ (σ : ℕ → Formula) (ps qs : List Part) (images : List ℕ) (i : ℕ) (s : Sound ps) (h : i < length ps) (done : Imaged (step σ) ps images i) where
   pub step_signal_way : (p : ℕ) (q : Part) (r : ℕ) → Signal p ≡ get_or ps i blank → leaf q ≡ σ p → Made 1 ps qs (leaf q) r → Made 2 ps qs (step σ (formula ps i)) r
   step_signal_way p q r e k d =
       made_as 1 2 ps qs (leaf q) (step σ (formula ps i)) r (omega arith)
@@ -45,7 +45,7 @@ module _ (σ : ℕ → Formula) (ps qs : List Part) (images : List ℕ) (i : ℕ
       → Made 1 ps qs (stepped_one u (formula ps i) (formula ps a) (formula ps (get_or images a 0))) r → Made 2 ps qs (step σ (formula ps i)) r
   step_one_way u a r e d =
       let f = formula_part ps i s.ordered h (One u a) (sym e) in
-      let x = (done a (omega (arith, one_low ps i u a s h e))).formula_is in
+      let x = (done a (one_low ps i u a s h e)).formula_is in
       made_as 1 2 ps qs _ (step σ (formula ps i)) r (omega arith)
       (ap₂ (λ w z. stepped_one u w (formula ps a) z) f x ∙ step_one σ u (formula ps a) ∙ sym (ap (step σ) f)) d
 
@@ -54,8 +54,8 @@ module _ (σ : ℕ → Formula) (ps qs : List Part) (images : List ℕ) (i : ℕ
   step_two_way b x y r e d =
       let f = formula_part ps i s.ordered h (Two b x y) (sym e) in
       let w = two_low ps i b x y s h e in
-      let u = (done x (omega (arith, w.0))).formula_is in
-      let v = (done y (omega (arith, w.1))).formula_is in
+      let u = (done x w.0).formula_is in
+      let v = (done y w.1).formula_is in
       made_as 2 2 ps qs _ (step σ (formula ps i)) r (omega arith)
       (ap (λ w. stepped_two b w (formula ps (get_or images x 0)) (formula ps (get_or images y 0))) f
       ∙ ap₂ (stepped_two b (two b (formula ps x) (formula ps y))) u v ∙ step_two σ b (formula ps x) (formula ps y) ∙ sym (ap (step σ) f)) d
@@ -70,7 +70,7 @@ close_time ρ Globally f n = refl
 pub close_until : (ρ : ℕ → ℕ → Formula) (b : Binary) (f g : Formula) → b ≡ Until → two b f g ≡ close ρ (two b f g)
 close_until ρ b f g e = ap (λ z. two z f g) e ∙ sym (ap (λ z. close ρ (two z f g)) e)
 
-module _ (ρ : ℕ → ℕ → Formula) (ps qs : List Part) (images : List ℕ) (i : ℕ) (s : Sound ps) (h : i < length ps) (l : i ≤ length images) (done : Imaged (close ρ) ps images) where
+module _ (ρ : ℕ → ℕ → Formula) (ps qs : List Part) (images : List ℕ) (i : ℕ) (s : Sound ps) (h : i < length ps) (done : Imaged (close ρ) ps images i) where
   pub close_open_way : (p t : ℕ) (q : Part) (r : ℕ) → Open p t ≡ get_or ps i blank → leaf q ≡ ρ p t → Made 1 ps qs (leaf q) r → Made 2 ps qs (close ρ (formula ps i)) r
   close_open_way p t q r e k d =
       made_as 1 2 ps qs (leaf q) (close ρ (formula ps i)) r (omega arith)
@@ -81,7 +81,7 @@ module _ (ρ : ℕ → ℕ → Formula) (ps qs : List Part) (images : List ℕ) 
   close_not_way u a r e n d =
       let f = formula_part ps i s.ordered h (One u a) (sym e) ∙ ap (λ z. one z (formula ps a)) n in
       made_as 1 2 ps qs _ (close ρ (formula ps i)) r (omega arith)
-      (ap negˢ (done a (omega (arith, one_low ps i u a s h e))).formula_is ∙ sym (ap (close ρ) f)) d
+      (ap negˢ (done a (one_low ps i u a s h e)).formula_is ∙ sym (ap (close ρ) f)) d
 
   pub close_join_way : (b : Binary) (o : Junction) (x y r : ℕ) → Two b x y ≡ get_or ps i blank → b ≡ Join o
       → Made 1 ps qs (twoˢ b (formula ps (get_or images x 0)) (formula ps (get_or images y 0))) r → Made 2 ps qs (close ρ (formula ps i)) r
@@ -90,18 +90,16 @@ module _ (ρ : ℕ → ℕ → Formula) (ps qs : List Part) (images : List ℕ) 
       let w = two_low ps i b x y s h e in
       made_as 1 2 ps qs _ (close ρ (formula ps i)) r (omega arith)
       (ap (λ z. twoˢ z (formula ps (get_or images x 0)) (formula ps (get_or images y 0))) n
-      ∙ ap₂ (joinˢ (op o)) (done x (omega (arith, w.0))).formula_is (done y (omega (arith, w.1))).formula_is ∙ sym (ap (close ρ) f)) d
+      ∙ ap₂ (joinˢ (op o)) (done x w.0).formula_is (done y w.1).formula_is ∙ sym (ap (close ρ) f)) d
 
 -- One image more.
 pub imaged_more : (to : Formula → Formula) (ps qs : List Part) (images : List ℕ) (i x : ℕ) → i ≡ length images → i < length ps
-    → Imaged to ps images → Made 2 ps qs (to (formula ps i)) x → Imaged to qs (images ++ x ∷ [])
-imaged_more to ps qs images i x l h done d k lt =
-    below_more (λ k. Stands qs (to (formula qs k)) (get_or (images ++ x ∷ []) k 0)) (length images)
+    → Imaged to ps images i → Made 2 ps qs (to (formula ps i)) x → Imaged to qs (images ++ x ∷ []) (i + 1)
+imaged_more to ps qs images i x l h done d =
+    below_more (λ k. Stands qs (to (formula qs k)) (get_or (images ++ x ∷ []) k 0)) i
     (λ k less.
-    subst (Stands qs (to (formula qs k))) (sym (get_or_append_left images (x ∷ []) 0 k less))
+    subst (Stands qs (to (formula qs k))) (sym (get_or_append_left images (x ∷ []) 0 k (omega arith)))
     (subst (λ f. Stands qs (to f) (get_or images k 0)) (sym (stood 2 ps qs _ x k d (omega arith)))
     (stands_on 2 ps qs (to (formula ps k)) (get_or images k 0) d.grown (done k less))))
-    (subst (Stands qs (to (formula qs (length images)))) (sym (get_or_push images x 0 (length images) refl))
-    (subst (λ j. Stands qs (to (formula qs j)) x) l
-    (subst (λ f. Stands qs (to f) x) (sym (stood 2 ps qs _ x i d h)) d.stands)))
-    k (omega (arith, length_push images x))
+    (subst (Stands qs (to (formula qs i))) (sym (get_or_push images x 0 i (sym l)))
+    (subst (λ f. Stands qs (to f) x) (sym (stood 2 ps qs _ x i d h)) d.stands))

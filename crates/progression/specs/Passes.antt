@@ -1,5 +1,5 @@
 -- What a pass over the parts of a table has made so far.
-use Rattle.std.specs.Prelude.{ℕ, ◌<◌, List, length, slice_index}
+use Rattle.std.specs.Prelude.{ℕ, ◌<◌, List, slice_index}
 use Rattle.temporal.specs.Formula.{Formula}
 use Rattle.temporal.specs.Formula.Op.{and, or}
 use Rattle.temporal.specs.Shorten.{negˢ, joinˢ}
@@ -10,9 +10,9 @@ use Rattle.parts.specs.declared.part.Binary.{Binary}
 use Rattle.parts.specs.declared.part.Binary.TheVariants.{Join, Until}
 use Rattle.parts.specs.declared.part.Part.{Part}
 
--- What a rewriting made of the first parts, as many as there are images: each stands in the table.
-abbrev pub Imaged : (Formula → Formula) → List Part → List ℕ → Type 0
-Imaged to ps images = (k : ℕ) → k < length images → Stands ps (to (formula ps k)) (slice_index images k)
+-- What a rewriting made of the first n parts: each image stands in the table.
+abbrev pub Imaged : (Formula → Formula) → List Part → List ℕ → ℕ → Type 0
+Imaged to ps images n = (k : ℕ) → k < n → Stands ps (to (formula ps k)) (slice_index images k)
 
 -- What a step makes of a sign: whole is the formula, x and y what its operands a and b became.
 abbrev pub stepped_one : Unary → Formula → Formula → Formula → Formula

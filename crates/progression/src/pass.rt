@@ -13,7 +13,7 @@ pub fn rewrite_all<R: Rewrite>(lent: &mut Lent<'_>, by: &R, images: &mut Vec<u16
     requires images { length (parts_in lent.old) ≤ vec_capacity images.old }
     ensures loan { SameLoan lent.old lent.new }
     ensures grown { Grown (2 * length (parts_in lent.old)) (parts_in lent.old) (parts_in lent.new) }
-    ensures imaged { Imaged (R.to by.now) (parts_in lent.new) images.new.items }
+    ensures imaged { Imaged (R.to by.now) (parts_in lent.new) images.new.items (length (parts_in lent.old)) }
     ensures count { vec_len images.new ≡ length (parts_in lent.old) }
     ensures capacity { vec_capacity images.new ≡ vec_capacity images.old }
 {

@@ -19,7 +19,7 @@ pub trait Rewrite {
         requires room { length (parts_in lent.old) + 2 ≤ room }
         requires inside { at < length (parts_in lent.old) }
         requires before { at ≤ length images.now }
-        requires imaged { Imaged (to self.now) (parts_in lent.old) images.now }
+        requires imaged { Imaged (to self.now) (parts_in lent.old) images.now at }
         ensures loan { SameLoan lent.old lent.new }
         ensures made { Made 2 (parts_in lent.old) (parts_in lent.new) (to self.now (formula (parts_in lent.old) at)) result };
 }

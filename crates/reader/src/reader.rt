@@ -15,7 +15,7 @@ use words::{MOST_WORDS, Word};
 /// `None` where an operand is wanted. There is room for what waits in 200 words; every place is one of the table's.
 #[derive(Drop)]
 pub struct Reader {
-    pub table: Table,
+    pub(crate) table: Table,
     pub(crate) frames: Vec<Frame>,
     pub(crate) held: Option<u16>,
     ghost room: { 200 ≤ vec_capacity frames },
@@ -38,6 +38,13 @@ impl Reader {
             frames,
             held: None,
         })
+    }
+
+    /// The parts that were made.
+    pub fn table(&self) -> &Table
+        ensures { result.now ≡ self.now.table }
+    {
+        &self.table
     }
 
     /// Lets what waits take its operand, at first `start`, from level `bound` on and back to the last open bracket; answers

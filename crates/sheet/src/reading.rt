@@ -67,7 +67,7 @@ fn read_rule(
     }
     let top = read_words(reader, words.as_slice(), signals, line)?;
     // every name is a signal, so that it can only have too many parts
-    rule.become_part(&reader.table, top, signals, space)
+    rule.become_part(reader.table(), top, signals, space)
         .map_err(|_| RuleFault::Large(line))
 }
 

@@ -36,7 +36,7 @@ fn print_fault(rt: &HostRuntime, fault: SheetFault) -> anyhow::Result<()> {
 }
 
 /// Reads one sheet.
-fn print_reading(rt: &HostRuntime, line: &str, number: u64) -> anyhow::Result<()> {
+fn print_reading(rt: &HostRuntime, line: &str, number: u32) -> anyhow::Result<()> {
     let heap = rt.alloc();
     let text = decoded(heap, line)?;
     let blank = Blank::new(heap)?;
@@ -51,7 +51,8 @@ fn run(rt: &HostRuntime) -> anyhow::Result<()> {
     let sheets = rt.lines(rt.alloc()).filter(
         |line| !matches!(line, Ok(text) if text.as_str().starts_with('#')),
     );
-    for (number, line) in (1u64..).zip(sheets) {
+    for (line, before) in sheets.zip(0u64..) {
+        let number = u32::try_from(before).unwrap_or(u32::MAX).saturating_add(1);
         print_reading(rt, line?.as_str(), number)?;
     }
     Ok(())

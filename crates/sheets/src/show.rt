@@ -15,6 +15,7 @@ fn print_posts(rt: &HostRuntime, posts: &[Post]) -> anyhow::Result<()> {
 }
 
 /// Prints the signals' names, each with the number of its owner.
+// A loop of its own: one for posts and signals would ask at each name which of the two it prints.
 fn print_signals(rt: &HostRuntime, signals: &[Signal]) -> anyhow::Result<()> {
     for (i, signal) in signals.iter().enumerate() {
         let before = if i == 0 { " " } else { "," };

@@ -1,4 +1,4 @@
-use Rattle.std.proofs.Common.{rules, ◌≡◌, ◌*◌, [], ◌∷◌, ◌++◌, vec_items, sym, subst, arith}
+use Rattle.std.proofs.Common.{rules, ◌≡◌, ◌+◌, ◌*◌, [], ◌∷◌, ◌++◌, vec_items, sym, subst, arith}
 use Rattle.parts.specs.Tables.{parts_in}
 use Rattle.parts.proofs.Making.{long_in}
 use Rattle.parts.proofs.Places.{grown_on}
@@ -14,7 +14,7 @@ loop-at-preserved g c =
     record {
       loan = search rules;
       grown = grown_on (2 * c.loop-at.at) 2 _ (parts_in c.args.lent.now) (parts_in c.loop-at.lent) _ (omega arith) inv.grown e.made.grown;
-      imaged = subst (Imaged (g.R.Rewrite.to c.args.by.now) (parts_in c.image-image.new.lent)) (sym pushed)
+      imaged = subst (λ images. Imaged (g.R.Rewrite.to c.args.by.now) (parts_in c.image-image.new.lent) images (c.loop-at.at + 1)) (sym pushed)
           (imaged_more (g.R.Rewrite.to c.args.by.now) (parts_in c.loop-at.lent) _ (vec_items c.loop-at.images) c.loop-at.at c.image-image.result
           (omega (arith, inv.count, c.loop-at.images.ok.0)) (omega (arith, long_in c.loop-at.lent, long_in c.args.lent.now, inv.grown.more, c.loop-at-test.true)) inv.imaged e.made);
       count = search rules;

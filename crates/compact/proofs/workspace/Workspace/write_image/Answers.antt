@@ -15,5 +15,5 @@ returns-clause-walked g c =
     c.number.ensures
     ∙ ap parts
     (top_stands (parts_of t) (parts_in c.rewrite_all.new.lent) (g.R.Rewrite.to c.args.by.now) (vec_items images) t.used c.index-top.result.now
-    c.requires.some (search rules) made.grown (omega (arith, made.count, images.ok.0)) made.imaged
+    c.requires.some (search rules) made.grown made.imaged
     (get_or_read (vec_items images) (t.used - 1) c.index-top.result.now (omega (arith, made.count, images.ok.0, l, c.requires.some)) c.index-top.ensures 0)).formula_is

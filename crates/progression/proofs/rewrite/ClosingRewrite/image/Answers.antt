@@ -18,7 +18,7 @@ returns-in-Signal-clause-made g c =
 
 pub returns-in-Some-clause-made : goal.returns-in-Some-clause-made
 returns-in-Some-clause-made g c =
-    close_open_way (closed_by (g.K.Known.known c.args.self.now.known.now)) _ _ c.args.images.now c.args.at (sound_in c.args.lent.now) c.requires.inside c.requires.before c.requires.imaged
+    close_open_way (closed_by (g.K.Known.known c.args.self.now.known.now)) _ _ c.args.images.now c.args.at (sound_in c.args.lent.now) c.requires.inside c.requires.imaged
     c.in-Open.p c.in-Open.tick (Const c.in-Some.value) _ (search rules) (ap (reading_or c.in-Open.p c.in-Open.tick) c.in-Some.ensures) (search rules)
 
 pub returns-in-None-clause-made : goal.returns-in-None-clause-made
@@ -28,7 +28,7 @@ returns-in-None-clause-made g c =
 
 pub returns-in-Not-clause-made : goal.returns-in-Not-clause-made
 returns-in-Not-clause-made g c =
-    close_not_way (closed_by (g.K.Known.known c.args.self.now.known.now)) _ _ c.args.images.now c.args.at (sound_in c.args.lent.now) c.requires.inside c.requires.before c.requires.imaged
+    close_not_way (closed_by (g.K.Known.known c.args.self.now.known.now)) _ _ c.args.images.now c.args.at (sound_in c.args.lent.now) c.requires.inside c.requires.imaged
     c.in-One.sign c.in-One.a _ (search rules) c.in-Not.is (search rules)
 
 pub returns-in_default-clause-made : goal.returns-in_default-clause-made
@@ -38,7 +38,7 @@ returns-in_default-clause-made g c =
 
 pub returns-in-Join-clause-made : goal.returns-in-Join-clause-made
 returns-in-Join-clause-made g c =
-    close_join_way (closed_by (g.K.Known.known c.args.self.now.known.now)) _ _ c.args.images.now c.args.at (sound_in c.args.lent.now) c.requires.inside c.requires.before c.requires.imaged
+    close_join_way (closed_by (g.K.Known.known c.args.self.now.known.now)) _ _ c.args.images.now c.args.at (sound_in c.args.lent.now) c.requires.inside c.requires.imaged
     c.in-Two.sign _ c.in-Two.a c.in-Two.b _ (search rules) c.in-Join.is (search rules)
 
 pub returns-in-Until-clause-made : goal.returns-in-Until-clause-made

@@ -16,20 +16,20 @@ returns-in-Open-clause-made c =
 
 pub returns-in-Some-clause-made : goal.returns-in-Some-clause-made
 returns-in-Some-clause-made c =
-    step_signal_way (assigned c.args.self.now.tick c.args.self.now.signals.now) _ _ c.args.images.now c.args.at (sound_in c.args.lent.now) c.requires.inside c.requires.before c.requires.imaged
+    step_signal_way (assigned c.args.self.now.tick c.args.self.now.signals.now) _ _ c.args.images.now c.args.at (sound_in c.args.lent.now) c.requires.inside c.requires.imaged
     c.in-Signal.p (Const c.in-Some.value) _ (search rules) (ap (reading_or c.in-Signal.p c.args.self.now.tick) c.in-Some.ensures) (search rules)
 
 pub returns-in-None-clause-made : goal.returns-in-None-clause-made
 returns-in-None-clause-made c =
-    step_signal_way (assigned c.args.self.now.tick c.args.self.now.signals.now) _ _ c.args.images.now c.args.at (sound_in c.args.lent.now) c.requires.inside c.requires.before c.requires.imaged
+    step_signal_way (assigned c.args.self.now.tick c.args.self.now.signals.now) _ _ c.args.images.now c.args.at (sound_in c.args.lent.now) c.requires.inside c.requires.imaged
     c.in-Signal.p (Open c.in-Signal.p c.args.self.now.tick) _ (search rules) (ap (reading_or c.in-Signal.p c.args.self.now.tick) c.in-None.ensures) (search rules)
 
 pub returns-in-One-clause-made : goal.returns-in-One-clause-made
 returns-in-One-clause-made c =
-    step_one_way (assigned c.args.self.now.tick c.args.self.now.signals.now) _ _ c.args.images.now c.args.at (sound_in c.args.lent.now) c.requires.inside c.requires.before c.requires.imaged
+    step_one_way (assigned c.args.self.now.tick c.args.self.now.signals.now) _ _ c.args.images.now c.args.at (sound_in c.args.lent.now) c.requires.inside c.requires.imaged
     c.in-One.sign c.in-One.a _ (search rules) (search rules)
 
 pub returns-in-Two-clause-made : goal.returns-in-Two-clause-made
 returns-in-Two-clause-made c =
-    step_two_way (assigned c.args.self.now.tick c.args.self.now.signals.now) _ _ c.args.images.now c.args.at (sound_in c.args.lent.now) c.requires.inside c.requires.before c.requires.imaged
+    step_two_way (assigned c.args.self.now.tick c.args.self.now.signals.now) _ _ c.args.images.now c.args.at (sound_in c.args.lent.now) c.requires.inside c.requires.imaged
     c.in-Two.sign c.in-Two.a c.in-Two.b _ (search rules) (search rules)
