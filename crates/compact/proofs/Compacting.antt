@@ -7,6 +7,8 @@ use Rattle.temporal.specs.Formula.Formula.{const}
 use Rattle.temporal.specs.Shorten.{same}
 use Rattle.temporal.specs.Parts.{parts, final, alike}
 use Rattle.parts.specs.Places.{node, place, formula, formulas, blank, Grown, Stands, Interned}
+use Rattle.parts.specs.Tables.{parts_of}
+use Rattle.parts.specs.declared.table.Table.{Table}
 use Rattle.progression.specs.Passes.{Imaged}
 use Rattle.std.specs.Result.{IsOk}
 use Rattle.compact.specs.Compacts.{Became, compact_parts, formula_of, constant}
@@ -139,13 +141,36 @@ adopted f ps qs r w e l h =
     let a = walked_alike ps f (ap formulas e ∙ w) in
     (a.0, omega (arith, ap length e), a.2, a.1)
 
--- A formula becomes what another is: it has no more parts than it may.
-pub became_ok : {E : Type 0} (c d o : Compact) (i : ℕ) (r : Result (Unit {0}) E) → i + 1 ≡ length (compact_parts o)
-    → Became c d (formula (compact_parts o) i) r → IsOk r
-became_ok c d o i (Ok u) q b = search rules
-became_ok c d o i (Err e) q b = absurd (omega (arith, b.0, o.few, counted o, ap (λ f. length (parts f)) (at_last o i q)))
+-- What was numbered is the walk of its last formula, which is the one that was asked for.
+pub whole_walk : (qs : List Part) (f : Formula) → formulas qs ≡ parts f → formulas qs ≡ parts (final (formulas qs))
+whole_walk qs f e = e ∙ ap parts (sym (ap final e ∙ final_parts f))
 
-pub became_it : {E : Type 0} (c d o : Compact) (i : ℕ) (r : Result (Unit {0}) E) → i + 1 ≡ length (compact_parts o)
-    → Became c d (formula (compact_parts o) i) r → IsOk r → formula_of d ≡ formula_of o
-became_it c d o i (Ok u) q b h = b ∙ at_last o i q
-became_it c d o i (Err e) q b h = absurd (search rules)
+pub last_walked : (qs : List Part) (f : Formula) → formulas qs ≡ parts f → final (formulas qs) ≡ f
+last_walked qs f e = ap final e ∙ final_parts f
+
+-- A table with a formula's parts is that formula again.
+abbrev pub put_back : (c : Compact) (t : Table) → parts_of t ≡ compact_parts c → Compact
+put_back c t e = record {
+  table = t;
+  some = subst (λ ps. 0 < length ps) (sym e) c.some;
+  few = subst (λ ps. length ps ≤ 256) (sym e) c.few;
+  walked = subst (λ ps. alike (formulas ps) (parts (final (formulas ps))) ≡ true) (sym e) c.walked;
+}
+
+-- A formula that had the same parts became another.
+pub became_from : {A E : Type 0} (b c d : Compact) (f g : Formula) (r : Result A E) → compact_parts b ≡ compact_parts c → f ≡ g → Became b d f r → Became c d g r
+became_from b c d f g (Ok u) e q w = w ∙ q
+became_from b c d f g (Err x) e q w = (omega (arith, w.0, ap (λ h. length (parts h)) q), w.1 ∙ e)
+
+-- A formula of no more parts than it may have is taken.
+pub became_ok : {E : Type 0} (c d : Compact) (f : Formula) (r : Result (Unit {0}) E) → length (parts f) ≤ 256 → Became c d f r → IsOk r
+became_ok c d f (Ok u) h b = search rules
+became_ok c d f (Err e) h b = absurd (omega (arith, b.0))
+
+pub became_it : {E : Type 0} (c d : Compact) (f : Formula) (r : Result (Unit {0}) E) → Became c d f r → IsOk r → formula_of d ≡ f
+became_it c d f (Ok u) b h = b
+became_it c d f (Err e) b h = absurd (search rules)
+
+-- The formula at the last place has no more.
+pub top_few : (o : Compact) (i : ℕ) → i + 1 ≡ length (compact_parts o) → length (parts (formula (compact_parts o) i)) ≤ 256
+top_few o i q = omega (arith, o.few, counted o, ap (λ f. length (parts f)) (at_last o i q))

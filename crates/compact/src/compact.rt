@@ -5,6 +5,7 @@ ghost use Rattle.parts.specs.Places.{formulas};
 ghost use Rattle.parts.specs.Tables.{parts_of};
 
 use crate::earliest::earliest_ticks;
+use crate::numbering::Numbering;
 use crate::workspace::Workspace;
 use parts::{Part, Table};
 use progression::{Closing, Known, Rewrite, Row};
@@ -40,7 +41,7 @@ impl Compact {
         ensures { IfOk result (λ c. formula_of c ≡ never) }
     {
         let mut table = Table::new(heap)?;
-        let _ = table.constant(false);
+        table.constant(false).unwrap();
         Ok(Compact { table })
     }
 
@@ -86,18 +87,26 @@ impl Compact {
         }
     }
 
+    /// Becomes the formula that was numbered.
+    pub fn become_numbered(&mut self, numbering: &mut Numbering) -> Result<(), TooMany>
+        requires { formulas (parts_of numbering.old.out) ≡ parts (final (formulas (parts_of numbering.old.out))) }
+        ensures { Became self.old self.new (final (formulas (parts_of numbering.old.out))) result }
+    {
+        if numbering.out.used() > MOST {
+            return Err(TooMany);
+        }
+        self.table.adopt(&mut numbering.out);
+        Ok(())
+    }
+
     /// Becomes what the rewriting makes of it.
     fn rewrite<R: Rewrite>(&mut self, by: &R, space: &mut Workspace) -> Result<(), TooMany>
         ensures { Became self.old self.new (R.to by.now (formula_of self.old)) result }
     {
         let n = self.table.used();
         space.write_image(&mut self.table, by);
-        if space.numbering.out.used() > MOST {
-            self.table.cut(n);
-            return Err(TooMany);
-        }
-        self.table.adopt(&mut space.numbering.out);
-        Ok(())
+        self.table.cut(n);
+        self.become_numbered(&mut space.numbering)
     }
 
     /// Becomes the formula at a place of a table.
@@ -111,11 +120,7 @@ impl Compact {
         ensures { Became self.old self.new (formula (parts_of table.now) at) result }
     {
         space.numbering.number(table, at);
-        if space.numbering.out.used() > MOST {
-            return Err(TooMany);
-        }
-        self.table.adopt(&mut space.numbering.out);
-        Ok(())
+        self.become_numbered(&mut space.numbering)
     }
 
     /// Becomes what another is.

@@ -1,16 +1,12 @@
 -- A call is held back under the first number that fits; the order is data, a list of numbers with their tests.
 use Rattle.std.specs.Prelude.{ℕ, Option}
-use Rattle.holds.specs.Cases.{Cases, first_case, NoCase, FirstCaseMeans}
+use Rattle.holds.specs.Cases.{Cases, first_case, FirstCaseMeans}
 
 abbrev pub Tests : Type 0
 Tests = Cases ℕ
 
 abbrev pub first_fit : Tests → Option ℕ
 first_fit xs = first_case xs
-
--- None of the tests holds.
-abbrev pub NoneFits : Tests → Type 0
-NoneFits xs = NoCase xs
 
 -- No number is answered just if none fits; and a number is answered only if it fits and none before it does.
 abbrev pub FirstFitMeans : Type 0

@@ -27,11 +27,11 @@ constant_some (until f g) b e = absurd (some≢none (sym e))
 -- A verdict is that of a constant.
 says : (o : Option Bool) (b : Bool) → as_verdict o ≡ as_verdict (Some b) → o ≡ Some b
 says (Some true) true e = refl
-says (Some true) false e = let z : true ≡ false = cc in absurd (false≢true (sym z))
-says (Some false) true e = let z : true ≡ false = cc in absurd (false≢true (sym z))
+says (Some true) false e = absurd (cc)
+says (Some false) true e = absurd (cc)
 says (Some false) false e = refl
-says None true e = let z : true ≡ false = cc in absurd (false≢true (sym z))
-says None false e = let z : true ≡ false = cc in absurd (false≢true (sym z))
+says None true e = absurd (cc)
+says None false e = absurd (cc)
 
 says_true : (f : Formula) → verdict_of f ≡ True → f ≡ const true
 says_true f e = constant_some f true (says (constant f) true e)

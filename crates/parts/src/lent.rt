@@ -2,7 +2,7 @@
 ghost use Rattle.std.specs.Prelude.{◌≡◌, ◌+◌, ◌<◌, ◌≤◌, length, vec_len};
 ghost use Rattle.parts.specs.Places.{in_use, room, AllShort, NoneTwice, OperandsFirst};
 
-use crate::part::{Binary, Part, Unary};
+use crate::part::{Binary, Junction, Part, Unary};
 use crate::shape::Shape;
 
 /// How many parts may be in use.
@@ -23,7 +23,9 @@ pub struct Lent<'a> {
 
 impl Lent<'_> {
     ghost use Rattle.std.specs.Prelude.{MatchOption, slice_index_or, ◌≢◌, ℕ};
-    ghost use Rattle.parts.specs.Places.{Interned, Made, Shapes, blank, formula, leaf, meant, oneˢ, reach, twoˢ};
+    ghost use Rattle.temporal.specs.Formula.Formula.{const};
+    ghost use Rattle.temporal.specs.Shorten.{same, begins};
+    ghost use Rattle.parts.specs.Places.{Interned, Made, Shapes, blank, formula, leaf, meant, oneˢ, op, reach, twoˢ};
     ghost use Rattle.parts.specs.Tables.{SameLoan, parts_in};
 
     /// The part at a place.
@@ -64,6 +66,81 @@ impl Lent<'_> {
         self.places[n] = part;
         *self.used = n + 1;
         Some(n as u16)
+    }
+
+    /// Whether the part at `x` is a constant.
+    fn is_const(&self, x: u16, value: bool) -> bool
+        requires { x < length (parts_in self.now) }
+        ensures { result ≡ same (formula (parts_in self.now) x) (const value) }
+    {
+        self.part(x) == Part::Const(value)
+    }
+
+    /// Whether the part at `y` is an *and* (or an *or*) that begins with the part at `x`.
+    fn is_begun(&self, by: Junction, x: u16, y: u16) -> bool
+        requires x { x < length (parts_in self.now) }
+        requires y { y < length (parts_in self.now) }
+        ensures { result ≡ begins (op by) (formula (parts_in self.now) x) (formula (parts_in self.now) y) }
+    {
+        let part = self.part(y);
+        match part {
+            Part::Two(_, _, right) => part == Part::Two(Binary::Join(by), x, right),
+            _ => false,
+        }
+    }
+
+    /// And, or.
+    fn join_shape(&self, by: Junction, x: u16, y: u16) -> Shape
+        requires x { x < length (parts_in self.now) }
+        requires y { y < length (parts_in self.now) }
+        ensures { Shapes (parts_in self.now) (twoˢ (Binary.Join by) (formula (parts_in self.now) x) (formula (parts_in self.now) y)) result }
+    {
+        let unit = by.unit();
+        if self.is_const(x, unit) {
+            return Shape::At(y);
+        }
+        if self.is_const(y, unit) {
+            return Shape::At(x);
+        }
+        if self.is_const(x, !unit) {
+            return Shape::At(x);
+        }
+        if self.is_const(y, !unit) {
+            return Shape::At(y);
+        }
+        if x == y {
+            return Shape::At(x);
+        }
+        if self.is_begun(by, x, y) {
+            return Shape::At(y);
+        }
+        Shape::Is(Part::Two(Binary::Join(by), x, y))
+    }
+
+    /// Not, X, F, G.
+    fn unary_shape(&self, sign: Unary, x: u16) -> Shape
+        requires { x < length (parts_in self.now) }
+        ensures { Shapes (parts_in self.now) (oneˢ sign (formula (parts_in self.now) x)) result }
+    {
+        match sign {
+            Unary::Not => match self.part(x) {
+                Part::Const(value) => Shape::Is(Part::Const(!value)),
+                _ => Shape::Is(Part::One(Unary::Not, x)),
+            },
+            time => Shape::Is(Part::One(time, x)),
+        }
+    }
+
+    /// And, or, U.
+    fn binary_shape(&self, sign: Binary, x: u16, y: u16) -> Shape
+        requires x { x < length (parts_in self.now) }
+        requires y { y < length (parts_in self.now) }
+        ensures { Shapes (parts_in self.now) (twoˢ sign (formula (parts_in self.now) x) (formula (parts_in self.now) y)) result }
+    {
+        match sign {
+            Binary::Join(by) => self.join_shape(by, x, y),
+            Binary::Until => Shape::Is(Part::Two(Binary::Until, x, y)),
+        }
     }
 
     /// The place of not, X, F or G over the part at `x`, shortened; `None` where there is no room for it.

@@ -5,7 +5,7 @@ ghost use Rattle.parts.specs.Signs.{binary_sign, unary_sign};
 use std::fmt;
 
 /// A sign with one operand: not, X, F, G.
-#[derive(Clone, Copy, PartialEq, Eq)]
+#[derive(Clone, Copy, PartialEq, Eq, Debug)]
 pub enum Unary {
     Not,
     Next,
@@ -14,21 +14,34 @@ pub enum Unary {
 }
 
 /// And, or.
-#[derive(Clone, Copy, PartialEq, Eq)]
+#[derive(Clone, Copy, PartialEq, Eq, Debug)]
 pub enum Junction {
     And,
     Or,
 }
 
+impl Junction {
+    ghost use Rattle.std.specs.Prelude.{◌≡◌};
+    ghost use Rattle.temporal.specs.Shorten.{unit};
+    ghost use Rattle.parts.specs.Places.{op};
+
+    /// The constant that leaves the other operand.
+    pub(crate) fn unit(self) -> bool
+        ensures { result ≡ unit (op self) }
+    {
+        self == Junction::And
+    }
+}
+
 /// A sign with two operands: and, or, U.
-#[derive(Clone, Copy, PartialEq, Eq)]
+#[derive(Clone, Copy, PartialEq, Eq, Debug)]
 pub enum Binary {
     Join(Junction),
     Until,
 }
 
 /// A constant, a signal, the open reading of a signal at a tick, or a sign over operands, which are given by their places.
-#[derive(Clone, Copy, PartialEq, Eq)]
+#[derive(Clone, Copy, PartialEq, Eq, Debug)]
 pub enum Part {
     Const(bool),
     Signal(u8),

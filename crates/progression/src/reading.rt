@@ -12,7 +12,7 @@ pub trait Known {
 }
 
 /// What is known of one tick: the signals by their numbers, on or off; those that are not known, and all others, stay open.
-#[derive(Clone, Copy)]
+#[derive(Clone, Copy, PartialEq, Eq, Debug)]
 pub struct Row<'a> {
     pub tick: u32,
     pub signals: &'a [Option<bool>],

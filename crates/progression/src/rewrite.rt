@@ -61,8 +61,7 @@ impl Rewrite for Row<'_> {
 
     fn image(&self, lent: &mut Lent<'_>, at: u16, images: &[u16]) -> u16 {
         match lent.part(at) {
-            Part::Const(_) => at,
-            Part::Open(_, _) => at,
+            Part::Const(_) | Part::Open(_, _) => at,
             Part::Signal(p) => match self.at(p) {
                 Some(value) => lent.put_leaf(Part::Const(value)),
                 None => lent.put_leaf(Part::Open(p, self.tick)),
@@ -88,8 +87,7 @@ impl<K: Known> Rewrite for Closing<'_, K> {
 
     fn image(&self, lent: &mut Lent<'_>, at: u16, images: &[u16]) -> u16 {
         match lent.part(at) {
-            Part::Const(_) => at,
-            Part::Signal(_) => at,
+            Part::Const(_) | Part::Signal(_) => at,
             Part::Open(p, tick) => match self.known.look_up(p, tick) {
                 Some(value) => lent.put_leaf(Part::Const(value)),
                 None => at,

@@ -100,18 +100,18 @@ pub part_open : (p e : ℕ) (f : Formula) → PartOf (reading p e) f → OpenIn 
 part_open p e (const b) k = let z : true ≡ false = cc in false≢true (sym z)
 part_open p e (signal q) k = let z : true ≡ false = cc in false≢true (sym z)
 part_open p e (reading q s) k = let a : q ≡ p = cc in let b : s ≡ e = cc in (a, b)
-part_open p e (neg f) (inl k) = let z : true ≡ false = cc in absurd (false≢true (sym z))
+part_open p e (neg f) (inl k) = absurd (cc)
 part_open p e (neg f) (inr k) = part_open p e f k
-part_open p e (join o f g) (inl k) = let z : true ≡ false = cc in absurd (false≢true (sym z))
+part_open p e (join o f g) (inl k) = absurd (cc)
 part_open p e (join o f g) (inr (inl k)) = inl (part_open p e f k)
 part_open p e (join o f g) (inr (inr k)) = inr (part_open p e g k)
-part_open p e (next f) (inl k) = let z : true ≡ false = cc in absurd (false≢true (sym z))
+part_open p e (next f) (inl k) = absurd (cc)
 part_open p e (next f) (inr k) = part_open p e f k
-part_open p e (finally f) (inl k) = let z : true ≡ false = cc in absurd (false≢true (sym z))
+part_open p e (finally f) (inl k) = absurd (cc)
 part_open p e (finally f) (inr k) = part_open p e f k
-part_open p e (globally f) (inl k) = let z : true ≡ false = cc in absurd (false≢true (sym z))
+part_open p e (globally f) (inl k) = absurd (cc)
 part_open p e (globally f) (inr k) = part_open p e f k
-part_open p e (until f g) (inl k) = let z : true ≡ false = cc in absurd (false≢true (sym z))
+part_open p e (until f g) (inl k) = absurd (cc)
 part_open p e (until f g) (inr (inl k)) = inl (part_open p e f k)
 part_open p e (until f g) (inr (inr k)) = inr (part_open p e g k)
 

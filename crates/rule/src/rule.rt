@@ -91,7 +91,7 @@ impl Rule {
         if !are_plain(space.numbering.out.parts(), signals) {
             return Err(Misfit::Leaf);
         }
-        self.formula.table.adopt(&mut space.numbering.out);
+        self.formula.become_numbered(&mut space.numbering).unwrap();
         self.signals = signals;
         Ok(())
     }

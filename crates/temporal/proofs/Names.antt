@@ -81,13 +81,13 @@ shorten_bare p (join o f g) k =
       | inl j ↦ inr (inl (shorten_bare p f j))
       | inr j ↦ inr (inr (shorten_bare p g j))
     ]
-shorten_bare p (next f) (inl e) = let z : ◌≡◌ {A = ℕ} 0 1 = cc in absurd (omega arith)
+shorten_bare p (next f) (inl e) = absurd (cc)
 shorten_bare p (next f) (inr k) = inr (shorten_bare p f k)
-shorten_bare p (finally f) (inl e) = let z : ◌≡◌ {A = ℕ} 0 1 = cc in absurd (omega arith)
+shorten_bare p (finally f) (inl e) = absurd (cc)
 shorten_bare p (finally f) (inr k) = inr (shorten_bare p f k)
-shorten_bare p (globally f) (inl e) = let z : ◌≡◌ {A = ℕ} 0 1 = cc in absurd (omega arith)
+shorten_bare p (globally f) (inl e) = absurd (cc)
 shorten_bare p (globally f) (inr k) = inr (shorten_bare p f k)
-shorten_bare p (until f g) (inl e) = let z : ◌≡◌ {A = ℕ} 0 1 = cc in absurd (omega arith)
+shorten_bare p (until f g) (inl e) = absurd (cc)
 shorten_bare p (until f g) (inr (inl k)) = inr (inl (shorten_bare p f k))
 shorten_bare p (until f g) (inr (inr k)) = inr (inr (shorten_bare p g k))
 

@@ -1,23 +1,6 @@
 //! The laws of formulas, shortening, progression and closing: each function has one for its contract.
-ghost use Rattle.temporal.specs.Laws.{RebuildingCommutes};
-ghost use Rattle.temporal.specs.Laws.{StepsAndClosingsCommute};
-ghost use Rattle.temporal.specs.Laws.{ShorteningKeepsMeaning};
-ghost use Rattle.temporal.specs.Laws.{SteppingKeepsMeaning};
-ghost use Rattle.temporal.specs.Laws.{ClosingKeepsMeaning};
-ghost use Rattle.temporal.specs.Laws.{TimeSignsAgree};
-ghost use Rattle.temporal.specs.Laws.{VerdictOfEveryRun};
-ghost use Rattle.temporal.specs.Laws.{RunsAbound};
-ghost use Rattle.temporal.specs.Laws.{ShortenedIsOwed};
-ghost use Rattle.temporal.specs.Laws.{ObligationIsProper};
-ghost use Rattle.temporal.specs.Laws.{ClosingMeetsStepping};
-ghost use Rattle.temporal.specs.Laws.{ClosingLeavesAlone};
-ghost use Rattle.temporal.specs.Laws.{PartsListed};
-ghost use Rattle.temporal.specs.Laws.{PartsInOrder};
-ghost use Rattle.temporal.specs.Laws.{ClosingAddsNoPart};
-ghost use Rattle.temporal.specs.Laws.{StepMakesTwo};
+ghost use Rattle.temporal.specs.Laws.{RebuildingCommutes, StepsAndClosingsCommute, ShorteningKeepsMeaning, SteppingKeepsMeaning, ClosingKeepsMeaning, TimeSignsAgree, VerdictOfEveryRun, RunsAbound, ShortenedIsOwed, ObligationIsProper, ClosingMeetsStepping, ClosingLeavesAlone, PartsListed, PartsInOrder, ClosingAddsNoPart, StepMakesTwo, ShorteningCommutes, ObligationsLast};
 ghost use Rattle.temporal.specs.Earliest.{EarliestIsFirst};
-ghost use Rattle.temporal.specs.Laws.{ShorteningCommutes};
-ghost use Rattle.temporal.specs.Laws.{ObligationsLast};
 ghost use Rattle.temporal.specs.Examples.{WorkedExamples};
 
 /// What keeps constants and rebuilds not, and, or with the shortening constructors commutes with those constructors.

@@ -23,6 +23,6 @@ returns-then-is_begun c = search (rules, sound_in, begun_way)
 
 pub returns : goal.returns
 returns c =
-    kept_way _ _ _ _ _ c.unit_of-unit.ensures (sound_in c.args.self.now) c.requires.x c.requires.y
+    kept_way _ _ _ _ _ c.unit-unit.ensures (sound_in c.args.self.now) c.requires.x c.requires.y
     c.if-is_const.ensures c.if-is_const-2.ensures c.if-is_const-3.ensures c.if-is_const-4.ensures
     c.if-x-y.false c.if-is_begun.ensures

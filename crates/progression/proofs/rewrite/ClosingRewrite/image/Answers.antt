@@ -1,20 +1,19 @@
-use Rattle.std.proofs.Common.{rules, refl, ap}
+use Rattle.std.proofs.Common.{rules, refl, ap, sym, ◌∙◌, inl, inr}
 use Rattle.parts.specs.Places.{formula}
 use Rattle.parts.specs.Tables.{parts_in}
 use Rattle.temporal.specs.Progress.{close}
 use Rattle.progression.specs.Readings.{closed_by, reading_or}
-use Rattle.parts.specs.declared.part.Part.TheVariants.{Const}
+use Rattle.parts.specs.declared.part.Part.TheVariants.{Const, Signal}
 use Rattle.parts.proofs.Making.{sound_in}
 use Rattle.progression.proofs.Passing.{left_alone, close_time, close_until, close_open_way, close_not_way, close_join_way}
 use Rattle.progression.proofs.rewrite.ClosingRewrite.image.Goals as goal
 
 pub returns-in-Const-clause-made : goal.returns-in-Const-clause-made
 returns-in-Const-clause-made g c =
-    left_alone (close (closed_by (g.K.Known.known c.args.self.now.known.now))) 2 _ c.args.at _ (sound_in c.args.lent.now) c.requires.inside c.in-Const.ensures refl
-
-pub returns-in-Signal-clause-made : goal.returns-in-Signal-clause-made
-returns-in-Signal-clause-made g c =
-    left_alone (close (closed_by (g.K.Known.known c.args.self.now.known.now))) 2 _ c.args.at _ (sound_in c.args.lent.now) c.requires.inside c.in-Signal.ensures refl
+    elim c.in-Const.is [
+      | inl w ↦ left_alone (close (closed_by (g.K.Known.known c.args.self.now.known.now))) 2 _ c.args.at (Const w.0) (sound_in c.args.lent.now) c.requires.inside (sym w.1 ∙ c.part.ensures) refl
+      | inr w ↦ left_alone (close (closed_by (g.K.Known.known c.args.self.now.known.now))) 2 _ c.args.at (Signal w.0) (sound_in c.args.lent.now) c.requires.inside (sym w.1 ∙ c.part.ensures) refl
+    ]
 
 pub returns-in-Some-clause-made : goal.returns-in-Some-clause-made
 returns-in-Some-clause-made g c =

@@ -1,4 +1,4 @@
-use Rattle.std.proofs.Common.{rules, refl, ap}
+use Rattle.std.proofs.Common.{rules, refl, ap, sym, ◌∙◌, inl, inr}
 use Rattle.temporal.specs.Progress.{step}
 use Rattle.progression.specs.Readings.{assigned, reading_or}
 use Rattle.parts.specs.declared.part.Part.TheVariants.{Const, Open}
@@ -8,11 +8,10 @@ use Rattle.progression.proofs.rewrite.RowRewrite.image.Goals as goal
 
 pub returns-in-Const-clause-made : goal.returns-in-Const-clause-made
 returns-in-Const-clause-made c =
-    left_alone (step (assigned c.args.self.now.tick c.args.self.now.signals.now)) 2 _ c.args.at _ (sound_in c.args.lent.now) c.requires.inside c.in-Const.ensures refl
-
-pub returns-in-Open-clause-made : goal.returns-in-Open-clause-made
-returns-in-Open-clause-made c =
-    left_alone (step (assigned c.args.self.now.tick c.args.self.now.signals.now)) 2 _ c.args.at _ (sound_in c.args.lent.now) c.requires.inside c.in-Open.ensures refl
+    elim c.in-Const.is [
+      | inl w ↦ left_alone (step (assigned c.args.self.now.tick c.args.self.now.signals.now)) 2 _ c.args.at (Const w.0) (sound_in c.args.lent.now) c.requires.inside (sym w.1 ∙ c.part.ensures) refl
+      | inr w ↦ left_alone (step (assigned c.args.self.now.tick c.args.self.now.signals.now)) 2 _ c.args.at (Open w.0 w.1) (sound_in c.args.lent.now) c.requires.inside (sym w.2 ∙ c.part.ensures) refl
+    ]
 
 pub returns-in-Some-clause-made : goal.returns-in-Some-clause-made
 returns-in-Some-clause-made c =
