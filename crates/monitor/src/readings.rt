@@ -21,6 +21,7 @@ fn bit_of(reading: u32, j: usize) -> bool
 }
 
 /// What each bit of a reading shows.
+// 32 and not `SIGNALS`: that is a `u8`, and a const argument cannot be computed.
 pub(crate) fn row_of(reading: u32) -> [Option<bool>; 32]
     ensures { (k : ℕ) → k < 32 → slice_index_or result k None ≡ Some (bit reading k) }
 {
