@@ -9,7 +9,7 @@ use parts::{Binary, Junction, Table, Unary};
 use words::{Connective, Leaf};
 
 /// How tight a word between two formulas binds.
-// Written out: an order derived on `Connective` would hide the grammar's levels in the order of its variants.
+// Written out: the levels are the grammar's, and as an order or as numbers of `Connective`, in `words`, no contract would say them.
 pub(crate) fn level(by: Connective) -> u8
     ensures { result ≡ level_of by }
 {
