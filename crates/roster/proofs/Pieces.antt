@@ -41,7 +41,7 @@ module _ {S : Type 0} (steps : S → Option (Bor (List ℕ)) → S → Type 0) (
       second = (t, subst (λ o. steps s o t) is_a f, (u, subst (λ o. steps t o u) is_b g, refl))
 
       pub more_pieces : (r : Option (Bor (List ℕ))) (v : S) → steps u r v → is_some r ≡ true → YieldsList steps (λ x. x.now) s (pieces 58 (drop 5 text)) → post_line text ≡ None
-      more_pieces None v h i e = let z : ◌≡◌ {A = ℕ} 0 1 = cc in absurd (omega arith)
+      more_pieces None v h i e = absurd (cc)
       more_pieces (Some c) v h i e =
           line_is text begun ∙ parted_many (pieces 58 (drop 5 text)) (YieldsList-turn e (a ∷ (b ∷ [])) u second (Some c) v c refl h).0
 
