@@ -21,7 +21,7 @@ spaced_again bs =
     behind_join 32 (pieces 32 bs) (omega (arith, some)) ∙ ap (λ z. 32 ∷ z) (join_with_byte-slice_split 32 bs)
 
 no_none : {A : Type 0} {P : Type 0} (x : A) → None ≡ Some x → P
-no_none x e = let z : ◌≡◌ {A = ℕ} 0 1 = cc in absurd (omega arith)
+no_none x e = absurd (cc)
 
 parted_written : (ps : List (List ℕ)) (p : PostLine) → parted ps ≡ Some p → join_with_byte 58 ps ≡ p.name ++ (58 ∷ behind 32 p.signals)
 parted_written [] p e = no_none p e

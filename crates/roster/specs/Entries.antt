@@ -40,6 +40,7 @@ stands e n = among n e.posts || among n (signal_names e)
 abbrev pub pieces : ℕ → List ℕ → List (List ℕ)
 pieces b bs = slice_split (λ c. c == b) bs
 
+-- Not `starts_with` of std, which compares the other way round than `strip_prefix` promises; `sheet` too reads these sides.
 abbrev pub begins_with : List ℕ → List ℕ → Bool
 begins_with p bs = bytes_eq (take (length p) bs) p
 

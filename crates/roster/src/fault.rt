@@ -4,6 +4,8 @@ ghost use Rattle.roster.specs.Faults.{answered};
 ghost use Rattle.roster.specs.declared.fault.RuleFault.TheVariants.{Words};
 ghost use Rattle.roster.specs.declared.fault.SheetFault.TheVariants.{Rule};
 
+use std::fmt;
+
 /// Where a word of a rule stands: its line on the sheet and its number on the line, both from 1.
 #[derive(Clone, Copy, PartialEq, Eq, Debug)]
 pub struct Place {
@@ -94,8 +96,7 @@ impl SheetFault {
         ensures { result ≡ (answered self).word }
     {
         match self {
-            SheetFault::Rule(RuleFault::Words(WordFault::Misplaced(place))) => Some(place.word),
-            SheetFault::Rule(RuleFault::Words(WordFault::Unknown(place))) => Some(place.word),
+            SheetFault::Rule(RuleFault::Words(fault)) => Some(fault.place().word),
             _ => None,
         }
     }
@@ -118,7 +119,35 @@ impl RuleFault {
     {
         match self {
             RuleFault::Long(line) | RuleFault::Large(line) => line,
-            RuleFault::Words(WordFault::Misplaced(place) | WordFault::Unknown(place)) => place.line,
+            RuleFault::Words(fault) => fault.place().line,
         }
+    }
+}
+
+impl WordFault {
+    fn place(self) -> Place
+        ensures line { Some result.line ≡ (answered (Rule (Words self))).line }
+        ensures word { Some result.word ≡ (answered (Rule (Words self))).word }
+    {
+        match self {
+            WordFault::Misplaced(place) | WordFault::Unknown(place) => place,
+        }
+    }
+}
+
+impl fmt::Display for SheetFault {
+    ghost use Rattle.roster.specs.Faults.{fault_text};
+
+    ghost output = { λ fault. Some (fault_text fault) };
+
+    fn fmt<W: fmt::Write>(&self, f: &mut fmt::Formatter<W>) -> fmt::Result {
+        write!(f, "{}", self.number())?;
+        if let Some(line) = self.line() {
+            write!(f, " {line}")?;
+        }
+        if let Some(word) = self.word() {
+            write!(f, " {word}")?;
+        }
+        Ok(())
     }
 }

@@ -8,7 +8,7 @@ ghost use Rattle.roster.specs.Parts.{line_of};
 use words::is_name_byte;
 
 /// A post line: the name of the post, and the text of its signals.
-#[derive(Clone, Copy)]
+#[derive(Clone, Copy, PartialEq, Eq, Debug)]
 pub struct PostLine<'a> {
     pub(crate) name: &'a [u8],
     pub(crate) signals: &'a [u8],

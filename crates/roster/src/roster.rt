@@ -15,13 +15,14 @@ pub const MOST_POSTS: usize = 8;
 pub const MOST_SIGNALS: usize = 32;
 
 /// A place of the site with its board.
-#[derive(Clone, Copy)]
+// No `PartialEq` here and below: `Name` has none.
+#[derive(Clone, Copy, Debug)]
 pub struct Post {
     pub name: Name,
 }
 
 /// A switch, and the number of the post that owns it.
-#[derive(Clone, Copy)]
+#[derive(Clone, Copy, Debug)]
 pub struct Signal {
     pub name: Name,
     pub owner: u8,
@@ -89,13 +90,12 @@ impl Roster {
         is_among(name, self.posts()) || is_among(name, self.signals())
     }
 
-    // A text goes with its line as two parameters: it is another piece each time, and the line only goes into the fault.
-
     /// The name that a text is, where it may be added.
+    // Here and below a text goes with its line: a fault has its whole place when it is made, and is carried up unchanged.
     fn fresh_name(&self, text: &[u8], line: usize) -> Result<Name, SheetFault>
         ensures { NamedFresh (name_holds (entries self.now) line text.now) text.now result }
     {
-        let name = Name::new(text).ok_or(SheetFault::Name(line))?;
+        let name = Name::try_from(text).map_err(|_| SheetFault::Name(line))?;
         if self.stands(text) {
             return Err(SheetFault::Again(line));
         }

@@ -15,7 +15,7 @@ abbrev Each : (ℕ → Word → Type 0) → List (ℕ × Word) → Type 0
 Each P xs = AllByRecursion (λ x. P x.0 x.1) xs
 
 each_listed : (P : ℕ → Word → Type 0) (b : ℕ) (v : Word) (xs : List (ℕ × Word)) → Each P xs → option_map (λ x. x.1) (find (λ x. eqb b x.0) xs) ≡ Some v → P b v
-each_listed P b v [] h = λ e. let z : ◌≡◌ {A = ℕ} 0 1 = cc in absurd (omega arith)
+each_listed P b v [] h = λ e. absurd (cc)
 each_listed P b v (x ∷ xs) h =
     cond_both (eqb b x.0) (Some x) (find (λ y. eqb b y.0) xs) (λ o. option_map (λ y. y.1) o ≡ Some v → P b v)
     (λ t e. let i : x.1 ≡ v = cc in subst (λ z. P z v) (sym (eqb-true b x.0 t)) (subst (P x.0) i h.0))

@@ -1,7 +1,6 @@
 -- What has names, in the place of the names.
-use Rattle.std.proofs.Common.{◌≡◌, ℕ, suc, ◌+◌, Bool, true, false, cond, not, ◌||◌, ltb, List, [], ◌∷◌, map, length, is_some, Some, None, sym, refl, ap, ◌∙◌, arith}
-use lib.Dec.{leb-suc-suc}
-use Rattle.std.proofs.lemmas.Bool.{cond_both, lt-ltb, ltb-false}
+use Rattle.std.proofs.Common.{◌≡◌, ℕ, ◌+◌, Bool, true, cond, not, ◌||◌, ltb, List, [], ◌∷◌, map, length, Some, None, sym, refl, ap, ◌∙◌, arith}
+use Rattle.std.proofs.lemmas.Bool.{cond_both, ltb-false}
 use Rattle.std.proofs.lemmas.List.{length-map}
 use Rattle.std.proofs.lemmas.List.Sums.{prefix_len-le-length}
 use Rattle.std.specs.List.{list_any, position, position_or_len}
@@ -12,29 +11,11 @@ use Rattle.words.specs.Texts.{constant_of, word_of}
 use Rattle.words.specs.declared.word.Leaf.TheVariants.{Const, Signal}
 use Rattle.words.specs.declared.word.Word.TheVariants.{Atom, Stray}
 
-module _ {X : Type 0} (p : X → Bool) where
-  -- There is a place just where an element passes.
-  some_position : (xs : List X) → is_some (position p xs) ≡ list_any p xs
-  some_position xs = some_below (ltb (position_or_len p xs) (length xs)) ∙ below xs
-    where
-      some_below : (t : Bool) → is_some (cond t (Some (position_or_len p xs)) None) ≡ t
-      some_below true = refl
-      some_below false = refl
-
-      below : (ys : List X) → ltb (position_or_len p ys) (length ys) ≡ list_any p ys
-      below [] = refl
-      below (y ∷ ys) = go (p y) (below ys)
-        where
-          go : (t : Bool) → ltb (position_or_len p ys) (length ys) ≡ list_any p ys → ltb (cond (not t) (1 + position_or_len p ys) 0) (suc (length ys)) ≡ (t || list_any p ys)
-          go true h = lt-ltb 0 (suc (length ys)) (omega arith)
-          go false h =
-              let e : 1 + position_or_len p ys ≡ suc (position_or_len p ys) = omega arith in
-              ap (λ k. ltb k (suc (length ys))) e ∙ leb-suc-suc (suc (position_or_len p ys)) (length ys) ∙ h
-
-pub among_is : (t : List ℕ) (ns : List (List ℕ)) → is_some (position (λ n. bytes_eq t n) ns) ≡ among t ns
-among_is t ns = some_position (λ n. bytes_eq t n) ns
-
 module _ {X : Type 0} (f : X → List ℕ) (t : List ℕ) where
+  pub among_map : (xs : List X) → list_any (λ x. bytes_eq t (f x)) xs ≡ among t (map f xs)
+  among_map [] = refl
+  among_map (x ∷ xs) = ap (λ b. bytes_eq t (f x) || b) (among_map xs)
+
   place_map : (xs : List X) → position_or_len (λ x. bytes_eq t (f x)) xs ≡ place_of t (map f xs)
   place_map [] = refl
   place_map (x ∷ xs) = ap (λ k. cond (not (bytes_eq t (f x))) (1 + k) 0) (place_map xs)

@@ -1,5 +1,5 @@
 -- The words of a text are those that it is cut into.
-use Rattle.std.proofs.Common.{◌≡◌, ℕ, zero, suc, true, eqb, List, [], ◌∷◌, ◌++◌, length, take, drop, Some, None, Option, sym, refl, ap, ◌∙◌, subst, arith, take-append-drop}
+use Rattle.std.proofs.Common.{◌≡◌, ℕ, zero, suc, true, eqb, List, [], ◌∷◌, ◌++◌, length, take, drop, Some, None, Option, sym, refl, ap, ◌∙◌, subst, take-append-drop}
 use lib.Seq.{take-append_seam, drop-append_seam}
 use Rattle.std.proofs.lemmas.Bool.{and_from, and_parts, cond_both, eqb-true}
 use Rattle.std.specs.List.{list_all, prefix_len, take_while}
@@ -15,7 +15,7 @@ use Rattle.words.proofs.Fronts.{front_passes, front_ends, front_append}
 
 -- The words behind a first one.
 before_some : (v : Word) (o : Option (List Word)) (ws : List Word) → before (v ∷ []) o ≡ Some ws → (us : List Word) × (o ≡ Some us) × (v ∷ us ≡ ws)
-before_some v None ws e = let z : ◌≡◌ {A = ℕ} 0 1 = cc in absurd (omega arith)
+before_some v None ws e = absurd (cc)
 before_some v (Some us) ws e = let i : v ∷ us ≡ ws = cc in (us, refl, i)
 
 module _ (w : List ℕ → Word) where
@@ -27,7 +27,7 @@ module _ (w : List ℕ → Word) where
   Goes p b bs = (ws : List Word) → goes p (λ k. words_from w k bs) ≡ Some ws → Cuts w (b ∷ bs) ws
 
   from_foreign : (b : ℕ) (bs : List ℕ) → Goes None b bs
-  from_foreign b bs ws e = let z : ◌≡◌ {A = ℕ} 0 1 = cc in absurd (omega arith)
+  from_foreign b bs ws e = absurd (cc)
 
   from_found : (v : Word) (k b : ℕ) (bs : List ℕ) → Behind bs → ((us : List Word) → Cuts w (drop k bs) us → Cuts w (b ∷ bs) (v ∷ us)) → Goes (Some (v, k)) b bs
   from_found v k b bs ih f ws e =

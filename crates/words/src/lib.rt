@@ -11,7 +11,7 @@ mod wordlist;
 
 pub use cutting::ForeignByte;
 pub use laws::words_mean;
-pub use name::Name;
+pub use name::{Name, NoName};
 pub use named::{Named, is_among, place_of};
 pub use naming::{NAME_BYTES, is_name, is_name_byte};
 pub use word::{Connective, Leaf, Word};

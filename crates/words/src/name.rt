@@ -5,8 +5,9 @@ ghost use Rattle.words.specs.Names.{is_name};
 use crate::naming::{NAME_BYTES, is_name};
 
 /// A name of a post or of a signal: the first `length` bytes.
-// The bytes have a length beside them, as a name is `Copy` and takes no memory of the heap.
-#[derive(Clone, Copy)]
+// The bytes have a length beside them, as a name is `Copy` and takes no memory of the heap. No `PartialEq` is derived: it
+// would compare the bytes behind the name too.
+#[derive(Clone, Copy, Debug)]
 pub struct Name {
     pub(crate) bytes: [u8; NAME_BYTES],
     pub(crate) length: usize,
@@ -14,21 +15,30 @@ pub struct Name {
     ghost named: { is_name (take length bytes) ≡ true },
 }
 
-impl Name {
-    ghost use Rattle.words.specs.Named.{NamedBy, name_bytes};
+/// A text is no name.
+#[derive(Clone, Copy, PartialEq, Eq, Debug)]
+pub struct NoName;
 
-    /// The name that a text is, if it is one.
-    pub fn new(text: &[u8]) -> Option<Name>
-        ensures { NamedBy text.now result }
-    {
+impl TryFrom<&[u8]> for Name {
+    ghost use Rattle.words.specs.Named.{NamedBy};
+
+    type Error = NoName;
+
+    ghost try_from_gives = { λ text r. NamedBy text.now r };
+
+    fn try_from(text: &[u8]) -> Result<Name, NoName> {
         if !is_name(text) {
-            return None;
+            return Err(NoName);
         }
         let length = text.len();
         let mut bytes = [0; NAME_BYTES];
         bytes[..length].copy_from_slice(text);
-        Some(Name { bytes, length })
+        Ok(Name { bytes, length })
     }
+}
+
+impl Name {
+    ghost use Rattle.words.specs.Named.{name_bytes};
 
     /// Its bytes.
     pub fn as_bytes(&self) -> &[u8]

@@ -27,5 +27,5 @@ pub fn place_of<T: Named>(text: &[u8], items: &[T]) -> Option<usize>
 pub fn is_among<T: Named>(text: &[u8], items: &[T]) -> bool
     ensures { result ≡ among text.now (map T.Named.label items.now) }
 {
-    place_of(text, items).is_some()
+    items.iter().any(|item| text == item.name().as_bytes())
 }

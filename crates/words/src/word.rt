@@ -4,14 +4,14 @@ use parts::Unary;
 /// What stands for itself: a constant, or a signal by its number. A name that is no signal has the number of signals, which
 /// is one past the last.
 // The number is no option: the theorems of the grammar and of the reader tell by it a name that is no signal.
-#[derive(Clone, Copy)]
+#[derive(Clone, Copy, PartialEq, Eq, Debug)]
 pub enum Leaf {
     Const(bool),
     Signal(u8),
 }
 
 /// What stands between two formulas: `->`, `|`, `&`, `U`.
-#[derive(Clone, Copy)]
+#[derive(Clone, Copy, PartialEq, Eq, Debug)]
 pub enum Connective {
     Implies,
     Or,
@@ -21,7 +21,8 @@ pub enum Connective {
 
 /// A word: a leaf, a prefix `!`, `X`, `F` or `G`, a word between two formulas, a bracket, or a run of name bytes that is no
 /// name and can stand nowhere.
-#[derive(Clone, Copy)]
+// No `Debug`: `Unary` of `parts` has none.
+#[derive(Clone, Copy, PartialEq, Eq)]
 pub enum Word {
     Atom(Leaf),
     Prefix(Unary),

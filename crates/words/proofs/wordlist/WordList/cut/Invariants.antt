@@ -6,10 +6,12 @@ use Rattle.words.proofs.wordlist.WordList.cut.Given as goal
 
 -- the words so far, and those of what is left, are all
 abbrev pub invariant-loop-rest : goal.invariant-loop-rest
-invariant-loop-rest g l =
-    (ws : List Word) × Holds ws l.self
-    × (before ws (words_of (map g.T.Named.label l.signals) l.rest) ≡ words_of (map g.T.Named.label l.signals) l.text)
-    × (l.self.count + length l.rest ≤ length l.text)
+invariant-loop-rest g l = record {
+  so_far : List Word;
+  holds : Holds so_far l.self;
+  all : before so_far (words_of (map g.T.Named.label l.signals) l.rest) ≡ words_of (map g.T.Named.label l.signals) l.text;
+  fits : l.self.count + length l.rest ≤ length l.text;
+}
 
 abbrev pub decreases-loop-rest : goal.decreases-loop-rest
 decreases-loop-rest g l = length l.rest
