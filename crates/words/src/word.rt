@@ -21,8 +21,7 @@ pub enum Connective {
 
 /// A word: a leaf, a prefix `!`, `X`, `F` or `G`, a word between two formulas, a bracket, or a run of name bytes that is no
 /// name and can stand nowhere.
-// No `Debug`: `Unary` of `parts` has none.
-#[derive(Clone, Copy, PartialEq, Eq)]
+#[derive(Clone, Copy, PartialEq, Eq, Debug)]
 pub enum Word {
     Atom(Leaf),
     Prefix(Unary),
