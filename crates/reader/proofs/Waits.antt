@@ -1,5 +1,5 @@
 -- The reader's frames over a table that grows, as the machine's state.
-use Rattle.std.proofs.Common.{◌≡◌, ℕ, suc, ◌+◌, ◌<◌, ◌≤◌, true, false, eqb, leb, List, [], ◌∷◌, ◌++◌, map, reverse, length, Some, None, Option, sym, refl, ap, ◌∙◌, subst, arith}
+use Rattle.std.proofs.Common.{◌≡◌, ℕ, suc, ◌+◌, ◌<◌, ◌≤◌, eqb, leb, List, [], ◌∷◌, ◌++◌, map, reverse, length, Some, None, Option, sym, refl, ap, ◌∙◌, subst, arith}
 use Rattle.std.specs.Bool.{then_some}
 use Rattle.std.proofs.lemmas.List.{map-append, reverse-append, length-append, length_push}
 use Rattle.std.proofs.lemmas.Bool.{lt-leb, cond-false, ne_eqb}
@@ -128,10 +128,10 @@ reduced_here b ps fs x qs gs hs y e f l h = subst (λ z. Reduced b ps fs x qs z 
 
 -- A word where an operand is wanted. Each law takes what the code knows as equations.
 pub took_leaf : (w : Word) (a : Leaf) (h : Option ℕ) (ps qs : List Part) (fs : List Frame) (i : ℕ) → w ≡ Atom a → h ≡ None → reach fs ≤ length ps → Made 1 ps qs (leaf a) i
-    → Took w h ps fs (Some i) qs fs true
+    → Took w h ps fs (Some i) qs fs
 took_leaf w a h ps qs fs i e n r m =
     let k = m.grown.few in
-    subst (λ z. Took w z ps fs (Some i) qs fs true) (sym n) (
+    subst (λ z. Took w z ps fs (Some i) qs fs) (sym n) (
       omega arith,
       ap (λ z. have z (formula qs i)) (stack_made 1 ps qs (leaf a) i m fs r) ∙ ap (have (stack (formula ps) fs)) m.stands.formula_is
           ∙ sym (ap (step short (want (stack (formula ps) fs))) e),
@@ -144,36 +144,36 @@ pushed ps fs gs f q =
     let l = length_push fs f in (omega (arith, ap length q), ap (stack (formula ps)) q ∙ stack_push (formula ps) fs f)
 
 pub took_sign : (w : Word) (u : Unary) (h : Option ℕ) (ps : List Part) (fs gs : List Frame) → w ≡ Prefix u → h ≡ None
-    → gs ≡ fs ++ (Before u ∷ []) → Took w h ps fs h ps gs true
+    → gs ≡ fs ++ (Before u ∷ []) → Took w h ps fs h ps gs
 took_sign w u h ps fs gs e n q =
     let k = pushed ps fs gs (Before u) q in
-    subst (λ z. Took w z ps fs z ps gs true) (sym n) (k.0, ap want k.1 ∙ sym (ap (step short (want (stack (formula ps) fs))) e))
+    subst (λ z. Took w z ps fs z ps gs) (sym n) (k.0, ap want k.1 ∙ sym (ap (step short (want (stack (formula ps) fs))) e))
 
 pub took_open : (w : Word) (h : Option ℕ) (ps : List Part) (fs gs : List Frame) → w ≡ Open → h ≡ None
-    → gs ≡ fs ++ (Bracket ∷ []) → Took w h ps fs h ps gs true
+    → gs ≡ fs ++ (Bracket ∷ []) → Took w h ps fs h ps gs
 took_open w h ps fs gs e n q =
     let k = pushed ps fs gs Bracket q in
-    subst (λ z. Took w z ps fs z ps gs true) (sym n) (k.0, ap want k.1 ∙ sym (ap (step short (want (stack (formula ps) fs))) e))
+    subst (λ z. Took w z ps fs z ps gs) (sym n) (k.0, ap want k.1 ∙ sym (ap (step short (want (stack (formula ps) fs))) e))
 
 -- A word after a formula.
 pub took_join : (w : Word) (o : Connective) (b x y : ℕ) (h : Option ℕ) (ps qs : List Part) (fs gs hs : List Frame) → w ≡ Infix o → h ≡ Some x
-    → Reduced b ps fs x qs gs y → b ≡ suc (level o) → hs ≡ gs ++ (Between o y ∷ []) → Took w h ps fs None qs hs true
+    → Reduced b ps fs x qs gs y → b ≡ suc (level o) → hs ≡ gs ++ (Between o y ∷ []) → Took w h ps fs None qs hs
 took_join w o b x y h ps qs fs gs hs e n r i q =
     let l = r.small in
     let k = pushed qs gs hs (Between o y) q in
     let m = k.0 in
-    subst (λ z. Took w z ps fs None qs hs true) (sym n) (
+    subst (λ z. Took w z ps fs None qs hs) (sym n) (
       omega arith,
       ap want k.1 ∙ ap (waits o) (r.pair ∙ ap (λ n. reducing n ps fs x) i) ∙ sym (ap (step short (state_of (Some x) ps fs)) e),
     )
 
 pub took_close : (w : Word) (f : Frame) (x y : ℕ) (h : Option ℕ) (ps qs : List Part) (fs gs hs : List Frame) → w ≡ Close → h ≡ Some x → Reduced 0 ps fs x qs hs y
-    → hs ≡ gs ++ (f ∷ []) → f ≡ Bracket → Took w h ps fs (Some y) qs gs true
+    → hs ≡ gs ++ (f ∷ []) → f ≡ Bracket → Took w h ps fs (Some y) qs gs
 took_close w f x y h ps qs fs gs hs e o r q i =
     let n = length_push gs f in
     let m = r.small in
     let d = ap (stack (formula qs)) (q ∙ ap (λ z. gs ++ (z ∷ [])) i) ∙ stack_push (formula qs) gs Bracket in
-    subst (λ z. Took w z ps fs (Some y) qs gs true) (sym o) (
+    subst (λ z. Took w z ps fs (Some y) qs gs) (sym o) (
       omega (arith, ap length q),
       ap closed (ap (λ z. (formula qs y, z)) (sym d) ∙ r.pair) ∙ sym (ap (step short (state_of (Some x) ps fs)) e),
     )
@@ -184,7 +184,7 @@ unopened at (Before u) x s n = refl
 unopened at (Between o i) x s n = refl
 
 pub took_unclosed : (w : Word) (f : Frame) (x y : ℕ) (h : Option ℕ) (ps qs : List Part) (fs gs hs : List Frame) → w ≡ Close → h ≡ Some x → Reduced 0 ps fs x qs hs y
-    → hs ≡ gs ++ (f ∷ []) → (f ≡ Bracket → ⊥) → Took w h ps fs (Some y) qs gs false
+    → hs ≡ gs ++ (f ∷ []) → (f ≡ Bracket → ⊥) → step short (state_of h ps fs) w ≡ stuck
 took_unclosed w f x y h ps qs fs gs hs e n r q i =
     let d = ap (stack (formula qs)) q ∙ stack_push (formula qs) gs f in
     ap (λ z. step short (state_of z ps fs) w) n ∙ ap (step short (state_of (Some x) ps fs)) e
