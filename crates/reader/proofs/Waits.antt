@@ -178,18 +178,6 @@ took_close w f x y h ps qs fs gs hs e o r q i =
       ap closed (ap (λ z. (formula qs y, z)) (sym d) ∙ r.pair) ∙ sym (ap (step short (state_of (Some x) ps fs)) e),
     )
 
-unopened : (at : ℕ → Formula) (f : Frame) (x : Formula) (s : List Held) → (f ≡ Bracket → ⊥) → closed (x, waiting at f ∷ s) ≡ stuck
-unopened at Bracket x s n = absurd (n refl)
-unopened at (Before u) x s n = refl
-unopened at (Between o i) x s n = refl
-
-pub took_unclosed : (w : Word) (f : Frame) (x y : ℕ) (h : Option ℕ) (ps qs : List Part) (fs gs hs : List Frame) → w ≡ Close → h ≡ Some x → Reduced 0 ps fs x qs hs y
-    → hs ≡ gs ++ (f ∷ []) → (f ≡ Bracket → ⊥) → step short (state_of h ps fs) w ≡ stuck
-took_unclosed w f x y h ps qs fs gs hs e n r q i =
-    let d = ap (stack (formula qs)) q ∙ stack_push (formula qs) gs f in
-    ap (λ z. step short (state_of z ps fs) w) n ∙ ap (step short (state_of (Some x) ps fs)) e
-    ∙ ap closed (sym r.pair ∙ ap (λ z. (formula qs y, z)) d) ∙ unopened (formula qs) f (formula qs y) (stack (formula qs) gs) i
-
 -- The end: the formula, if nothing waits.
 ended_open : (f : Formula) (s : List Held) (h : Held) → ended f (s ++ (h ∷ [])) ≡ None
 ended_open f [] h = refl
