@@ -94,11 +94,6 @@ module _ (b : ℕ) (ps qs : List Part) (gs fs : List Frame) (x y : ℕ) (low : r
       turn 2 (Between o i) (connectˢ o (formula ps i) (formula ps x)) (omega arith) e m
       (sym (reduce_left short b o (formula ps i) (formula ps x) (stack (formula ps) fs) t))
 
--- The turns so far, and one more.
-pub turn_on : (b : ℕ) (ps qs : List Part) (gs fs : List Frame) (x y n : ℕ) (r : Formula × List Held) → Turn b ps gs x qs fs y → load ps gs ≤ n → reducing b ps gs x ≡ r
-    → (y < length qs) × (load qs fs ≤ n) × (reducing b qs fs y ≡ r)
-turn_on b ps qs gs fs x y n r t l e = let m = t.small in (t.inside, omega arith, t.left ∙ e)
-
 -- The frame that was taken off.
 pub popped_is : (gs fs : List Frame) (f g : Frame) → gs ≡ fs ++ (f ∷ []) → f ≡ g → gs ≡ fs ++ (g ∷ [])
 popped_is gs fs f g e q = e ∙ ap (λ z. fs ++ (z ∷ [])) q
