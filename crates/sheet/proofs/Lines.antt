@@ -1,17 +1,15 @@
 -- One line after the other.
-use Rattle.std.proofs.Common.{◌≡◌, ℕ, suc, ◌<◌, Bool, true, false, cond, not, ◌||◌, eqb, List, [], ◌∷◌, ◌++◌, length, drop, drop-cons, is_some, IsErrAnd, OnOk, Some, None, Ok, Err, Option, Result, sym, refl, ap, ◌∙◌, subst, arith}
+use Rattle.std.proofs.Common.{◌≡◌, ℕ, suc, ◌<◌, Bool, true, false, cond, not, ◌||◌, eqb, List, [], ◌∷◌, ◌++◌, length, drop, drop-cons, is_some, OnOk, Some, None, Ok, Err, Option, Result, sym, refl, ap, ◌∙◌, arith}
 use Rattle.std.specs.Iterator.{Yields}
 use Rattle.std.specs.List.{onto_first, slice_split}
 use Rattle.std.proofs.lemmas.Iterator.{YieldsList}
 use Rattle.std.proofs.lemmas.Iterator.Consumers.{YieldsList-end, YieldsList-turn}
 use Rattle.std.proofs.lemmas.List.{drop_all, length_push}
-use Rattle.std.proofs.lemmas.Result.{err_from_is_err_and}
 use Rattle.std.proofs.lemmas.Bool.{true≢false}
 use Rattle.temporal.specs.Formula.{Formula}
-use Rattle.holds.specs.Cases.{Hold, Cases, first_case, on_line}
+use Rattle.holds.specs.Cases.{Hold, first_case, on_line}
 use Rattle.holds.proofs.Cases.{first_case_means, front_fits, past_fits}
 use Rattle.roster.specs.Entries.{Entries, after_post, post_holds, post_line}
-use Rattle.roster.specs.Faults.{answered}
 use Rattle.roster.specs.Rosters.{Judged}
 use Rattle.roster.specs.declared.fault.SheetFault.{SheetFault}
 use Rattle.sheet.specs.Sheets.{Drafted}
@@ -69,11 +67,6 @@ pub last_part : {S A B : Type 0} {steps : S → Option A → S → Type 0} {v : 
     → drop (length xs) ls ≡ []
 last_part {ls = ls} xs t y r u e k road =
     let end = (YieldsList-end road xs t y r u e k).1 in drop_all (length xs) ls (omega arith)
-
--- The exit of a `?`.
-pub drafted_exit : {A : Type 0} (ts : Cases Hold) (want got : Draft) (r : Result A SheetFault) (f : SheetFault) → IsErrAnd r (λ e. e ≡ f) → first_case ts ≡ Some (answered f) → Drafted ts want got r
-drafted_exit ts want got r f h e =
-    let p = err_from_is_err_and r h in subst (Drafted ts want got) (sym (p.1 ∙ ap Err p.2)) e
 
 -- The first of some lines.
 module _ (d : Draft) (l : ℕ) (ls : List (List ℕ)) (x : List ℕ) (xs : List (List ℕ)) (split : ls ≡ x ∷ xs) where

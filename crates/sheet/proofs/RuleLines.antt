@@ -1,30 +1,19 @@
 -- The rule line.
-use Rattle.std.proofs.Common.{◌≡◌, ℕ, Bool, true, false, not, ◌||◌, eqb, List, [], ◌∷◌, ◌++◌, map, length, is_some, IsErrAnd, Some, None, Ok, Err, Option, Result, unwrap_or, sym, ap, ◌∙◌, subst}
-use Rattle.std.proofs.lemmas.Result.{err_from_is_err_and}
+use Rattle.std.proofs.Common.{◌≡◌, ℕ, Bool, true, false, not, ◌||◌, eqb, List, [], ◌∷◌, ◌++◌, map, length, is_some, Some, None, Ok, Err, Option, Result, unwrap_or, sym, ap, ◌∙◌}
 use Rattle.temporal.specs.Formula.{Formula}
-use Rattle.holds.specs.Cases.{Hold, Cases, first_case, on_line}
+use Rattle.holds.specs.Cases.{Hold, first_case, on_line}
 use Rattle.words.specs.Lists.{Cut, Holds}
 use Rattle.words.specs.Named.{name_bytes}
 use Rattle.words.specs.Texts.{words_of}
 use Rattle.words.specs.declared.word.Word.{Word}
 use Rattle.words.specs.declared.wordlist.WordList.{WordList}
 use Rattle.roster.specs.Entries.{signal_names}
-use Rattle.roster.specs.Faults.{answered}
 use Rattle.roster.specs.Rosters.{owned, post_name}
-use Rattle.roster.specs.declared.fault.RuleFault.{RuleFault}
-use Rattle.roster.specs.declared.fault.SheetFault.{SheetFault}
-use Rattle.roster.specs.declared.fault.SheetFault.TheVariants.{Rule as OfRule}
 use Rattle.roster.specs.declared.roster.Post.{Post}
 use Rattle.roster.specs.declared.roster.Signal.{Signal}
 use Rattle.roster.proofs.Standing.{labels}
 use Rattle.sheet.proofs.Spares.{counted}
-use Rattle.sheet.specs.Sheets.{Drafted}
 use Rattle.sheet.specs.Texts.{Draft, after_rule, none_yet, rule_formula, rule_holds, words_holds}
-
--- A fault of the rule comes up unchanged.
-pub drafted_break : {A : Type 0} (ts : Cases Hold) (want got : Draft) (r : Result A SheetFault) (f : RuleFault) → IsErrAnd r (λ e. e ≡ OfRule f) → first_case ts ≡ Some (answered (OfRule f)) → Drafted ts want got r
-drafted_break ts want got r f h e =
-    let p = err_from_is_err_and r h in subst (Drafted ts want got) (sym (p.1 ∙ ap Err p.2)) e
 
 -- The text has a byte that is in no word, or the list has its words.
 pub cut_none : {A E : Type 0} (o : Option (List Word)) (l : WordList) (r : Result A E) → Cut o l r → (e : E) × (r ≡ Err e) → o ≡ None
