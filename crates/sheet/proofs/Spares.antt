@@ -1,13 +1,11 @@
 -- The rule is spare, or it was read.
 use Rattle.std.proofs.Common.{◌≡◌, ℕ, suc, ◌+◌, false, not, eqb, List, [], ◌∷◌, ◌++◌, map, length, Some, None, Option, sym, ap, ◌∙◌, refl, subst, arith}
 use Rattle.std.specs.List.{All}
-use Rattle.std.specs.Option.{option_to_list}
 use Rattle.std.proofs.lemmas.List.Elements.{All-push}
 use Rattle.std.proofs.lemmas.Bool.{ne_eqb, true≢false}
 use Rattle.std.proofs.lemmas.List.{nil_from_length}
 use Rattle.rule.specs.Ruled.{rule_formula}
 use Rattle.rule.specs.declared.rule.Rule.{Rule}
-use Rattle.sheet.specs.Rules.{signals_of}
 use Rattle.sheet.specs.Texts.{none_yet}
 use Rattle.sheet.proofs.Wholes.{over_none}
 
@@ -18,18 +16,6 @@ counted_as f (x ∷ xs) = ne_eqb (suc (length xs)) 0 (λ e. omega arith)
 
 pub counted : {A B : Type 0} (f : A → B) (xs : List A) (n : ℕ) → n ≡ length xs → eqb n 0 ≡ none_yet (map f xs)
 counted f xs n e = ap (λ k. eqb k 0) e ∙ counted_as f xs
-
-pub spare_some : {A : Type 0} (o : Option A) (x : A) (n : ℕ) → o ≡ Some x → length (option_to_list o) + n ≡ 1 → n ≡ 0
-spare_some (Some y) x n e k = omega arith
-spare_some None x n e k = absurd (cc)
-
-pub spare_none : {A : Type 0} (o : Option A) (n : ℕ) → o ≡ None → length (option_to_list o) + n ≡ 1 → n ≡ 1
-spare_none (Some y) n e k = absurd (cc)
-spare_none None n e k = omega arith
-
-pub spent : {A : Type 0} (o : Option A) (n : ℕ) → o ≡ None → n ≡ 1 → length (option_to_list o) + n ≡ 1
-spent (Some y) n e k = absurd (cc)
-spent None n e k = omega arith
 
 -- The rules so far, as their formulas.
 pub unread : (xs : List Rule) → length xs ≡ 0 → map rule_formula xs ≡ []
@@ -43,10 +29,6 @@ one_read xs ys r h e = ap (map rule_formula) (e ∙ ap (λ z. z ++ r ∷ []) (ni
 pub over_one : (xs ys : List Rule) (r : Rule) (n : ℕ) → length xs ≡ 0 → ys ≡ xs ++ r ∷ [] → r.signals ≡ n → All (λ q. q.signals ≡ n) ys
 over_one xs ys r n h e s =
     subst (All (λ q. q.signals ≡ n)) (sym e) (All-push (λ q. q.signals ≡ n) xs r (over_none xs n h) s)
-
-pub first_over : (xs : List Rule) (n : ℕ) → length xs ≡ 1 → All (λ q. q.signals ≡ n) xs → signals_of xs ≡ n
-first_over [] n h a = absurd (omega arith)
-first_over (x ∷ xs) n h a = a 0 x (omega arith)
 
 pub over_unruled : (xs : List Rule) (n : ℕ) → not (none_yet (map rule_formula xs)) ≡ false → All (λ r. r.signals ≡ n) xs
 over_unruled [] n h = over_none [] n refl

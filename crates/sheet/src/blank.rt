@@ -1,6 +1,5 @@
 //! A sheet before it is read.
-ghost use Rattle.std.specs.Prelude.{◌≡◌, IfOk, length, vec_len};
-ghost use Rattle.std.specs.Option.{option_to_list};
+ghost use Rattle.std.specs.Prelude.{◌≡◌, IfOk, IsSome, vec_len};
 ghost use Rattle.sheet.specs.Texts.{blank};
 
 use crate::reading::Reading;
@@ -20,7 +19,7 @@ pub struct Blank {
     ghost no_posts: { vec_len reading.roster.posts ≡ 0 },
     ghost no_signals: { vec_len reading.roster.signals ≡ 0 },
     ghost no_rule: { vec_len reading.rules ≡ 0 },
-    ghost spare: { length (option_to_list reading.spare) ≡ 1 },
+    ghost spare: { IsSome reading.spare },
 }
 
 impl Blank {

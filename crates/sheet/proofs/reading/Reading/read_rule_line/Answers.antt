@@ -1,5 +1,6 @@
 use Rattle.std.proofs.Common.{◌≡◌, ℕ, false, true, eqb, List, length, map, Some, vec_items, vec_len, None, sym, ap, ◌∙◌, rules, arith}
 use Rattle.std.proofs.lemmas.List.{length-map}
+use Rattle.std.specs.Option.{option_len}
 use Rattle.holds.specs.Cases.{first_case}
 use Rattle.words.specs.Lists.{Holds}
 use Rattle.words.specs.Named.{name_bytes}
@@ -14,7 +15,7 @@ use Rattle.sheet.specs.Texts.{after_rule, rule_holds, words_holds}
 use Rattle.sheet.proofs.Exits.{advances_exit}
 use Rattle.sheet.proofs.Mapped.{MapsErr, err_was, none_was, ok_was, some_was}
 use Rattle.sheet.proofs.RuleLines.{cut_none, cut_some, foreign_fits, first_fits, second_fits, words_decide, rule_joins}
-use Rattle.sheet.proofs.Spares.{one_read, over_one, counted, spare_none, spare_some, spent, unread}
+use Rattle.sheet.proofs.Spares.{one_read, over_one, counted, unread}
 use Rattle.sheet.proofs.reading.Reading.read_rule_line.Goals.{In_ok-map_err, In_ok-rule}
 use Rattle.sheet.proofs.reading.Reading.read_rule_line.Goals as goal
 
@@ -30,8 +31,7 @@ none_read c =
     let b = c.args.self.now in
     let spare = some_was c.take.result _ _ (sym c.ok_or.ensures.value ∙ c.in_ok-rule.was) in
     let taken : b.spare ≡ Some c.in_ok-rule.rule = cc in
-    let none = spare_some b.spare c.in_ok-rule.rule (vec_len b.rules) taken c.requires.one in
-    omega (arith, b.rules.ok.0)
+    omega (arith, ap option_len taken, c.requires.one, b.rules.ok.0)
 
 -- So the words decide.
 decided : (c : In_ok-rule) (ws : List Word) → words_of (map (λ s. name_bytes s.name) c.signals.result.now) c.args.text.now ≡ Some ws → (n : ℕ) → n ≡ length (map owned (vec_items c.args.self.now.roster.signals))
@@ -66,7 +66,7 @@ returns-in_err-rule c =
     let was = none_was c.take.result _ _ (sym c.ok_or.ensures.value ∙ c.in_err-rule.was) in
     let none = was.0 in
     let taken : b.spare ≡ None = cc in
-    let one = spare_none b.spare (vec_len b.rules) taken c.requires.one in
+    let one : vec_len b.rules ≡ 1 = omega (arith, ap option_len taken, c.requires.one) in
     let read = sym (counted rule_formula (vec_items b.rules) (vec_len b.rules) b.rules.ok.0) ∙ ap (λ n. eqb n 0) one in
     let fits = second_fits (vec_items b.roster.posts) (vec_items b.roster.signals) (map rule_formula (vec_items b.rules)) c.args.line c.args.text.now _ cut.0 c.signals.ensures.items cut.1 _ c.posts.ensures.items some read in
     advances_exit (rule_holds (draft_so_far b) c.args.line c.args.text.now) (after_rule (draft_so_far b) c.args.text.now) _ _ _ c.from_residual-in_err-rule.ensures.1 (fits ∙ ap (λ f. Some (answered f)) (sym was.1))
@@ -97,7 +97,7 @@ returns c =
         ap (λ fs. record { entries = entries b.roster; rules = fs }) (one_read items _ rule none pushed) ∙ joined,
       ),
       record {
-        one = spent c.take.new.self _ c.take.ensures.after (omega (arith, none, b.rules.ok.0, c.push_reserved.ensures.len));
+        one = omega (arith, ap option_len c.take.ensures.after, none, b.rules.ok.0, c.push_reserved.ensures.len);
         over = over_one items _ rule (vec_len b.roster.signals) none pushed (ruled.2 ∙ ap length c.signals-2.ensures.items ∙ sym b.roster.signals.ok.0);
       },
     )
