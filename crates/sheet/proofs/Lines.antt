@@ -13,10 +13,10 @@ use Rattle.roster.specs.Entries.{Entries, after_post, post_holds, post_line}
 use Rattle.roster.specs.Rosters.{Judged}
 use Rattle.roster.specs.declared.fault.SheetFault.{SheetFault}
 use Rattle.sheet.specs.Sheets.{Drafted}
-use Rattle.sheet.specs.Texts.{Draft, after_line, after_lines, after_rule, is_rule_line, line_holds, lines, lines_holds, none_yet, rule_holds}
+use Rattle.sheet.specs.Texts.{Draft, after_line, after_lines, after_rule, is_rule_line, line_holds, lines, lines_holds, rule_holds}
 
 -- A line that is no rule line, where fs are the rules so far.
-pub as_post_line : {A : Type 0} (e got : Entries) (fs : List Formula) (ruled : Bool) (l : ℕ) (bs : List ℕ) (r : Result A SheetFault) → Judged (post_holds e ruled l bs) (after_post e bs) got r → ruled ≡ not (none_yet fs) → is_rule_line bs ≡ false → Drafted (line_holds (record { entries = e; rules = fs }) l bs) (after_line (record { entries = e; rules = fs }) bs) (record { entries = got; rules = fs }) r
+pub as_post_line : {A : Type 0} (e got : Entries) (fs : List Formula) (ruled : Bool) (l : ℕ) (bs : List ℕ) (r : Result A SheetFault) → Judged (post_holds e ruled l bs) (after_post e bs) got r → ruled ≡ not (eqb (length fs) 0) → is_rule_line bs ≡ false → Drafted (line_holds (record { entries = e; rules = fs }) l bs) (after_line (record { entries = e; rules = fs }) bs) (record { entries = got; rules = fs }) r
 as_post_line e got fs ruled l bs r j k b = go r j
   where
     d : Draft
@@ -24,7 +24,7 @@ as_post_line e got fs ruled l bs r j k b = go r j
 
     tests : first_case (line_holds d l bs) ≡ first_case (post_holds e ruled l bs)
     tests =
-        ap (λ t. first_case (cond t (rule_holds d l (drop 5 bs)) (post_holds e (not (none_yet fs)) l bs))) b
+        ap (λ t. first_case (cond t (rule_holds d l (drop 5 bs)) (post_holds e (not (eqb (length fs) 0)) l bs))) b
         ∙ ap (λ t. first_case (post_holds e t l bs)) (sym k)
 
     after : after_line d bs ≡ record { entries = after_post e bs; rules = fs }
@@ -84,5 +84,5 @@ module _ (d : Draft) (l : ℕ) (ls : List (List ℕ)) (x : List ℕ) (xs : List 
   line_joins c q = ap (λ z. after_lines z xs) q ∙ sym (ap (after_lines d) split)
 
 -- Behind the last line.
-pub behind : (e : Entries) (fs : List Formula) (l : ℕ) (b : Bool) → none_yet fs ≡ b → first_case (lines_holds (record { entries = e; rules = fs }) l []) ≡ cond b (Some (on_line 3 l)) None
+pub behind : (e : Entries) (fs : List Formula) (l : ℕ) (b : Bool) → eqb (length fs) 0 ≡ b → first_case (lines_holds (record { entries = e; rules = fs }) l []) ≡ cond b (Some (on_line 3 l)) None
 behind e fs l b h = ap (λ t. cond t (Some (on_line 3 l)) None) h

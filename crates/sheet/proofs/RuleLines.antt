@@ -13,7 +13,7 @@ use Rattle.roster.specs.declared.roster.Post.{Post}
 use Rattle.roster.specs.declared.roster.Signal.{Signal}
 use Rattle.roster.proofs.Standing.{labels}
 use Rattle.sheet.proofs.Spares.{counted}
-use Rattle.sheet.specs.Texts.{Draft, after_rule, none_yet, rule_formula, rule_holds, words_holds}
+use Rattle.sheet.specs.Texts.{Draft, after_rule, rule_formula, rule_holds, words_holds}
 
 -- The text has a byte that is in no word, or the list has its words.
 pub cut_none : {A E : Type 0} (o : Option (List Word)) (l : WordList) (r : Result A E) → Cut o l r → (e : E) × (r ≡ Err e) → o ≡ None
@@ -39,37 +39,37 @@ module _ (ps : List Post) (ss : List Signal) (fs : List Formula) (l : ℕ) (text
   names : (xs : List Signal) (o : Option (List Word)) → xs ≡ ss → words_of (map (λ s. name_bytes s.name) xs) text ≡ o → words_of (signal_names draft.entries) text ≡ o
   names xs o e h = ap (λ ns. words_of ns text) (labels ss ∙ ap (map (λ s. name_bytes s.name)) (sym e)) ∙ h
 
-  any_posts : (qs : List Post) → qs ≡ ps → none_yet (map post_name ps) ≡ eqb (length qs) 0
+  any_posts : (qs : List Post) → qs ≡ ps → eqb (length (map post_name ps)) 0 ≡ eqb (length qs) 0
   any_posts qs e = sym (counted post_name ps (length qs) (ap length e))
 
   pub foreign_fits : (xs : List Signal) → xs ≡ ss → words_of (map (λ s. name_bytes s.name) xs) text ≡ None → first_case (rule_holds draft l text) ≡ Some (on_line 2 l)
   unfolding judge
-  foreign_fits xs e h = ap (λ o. judge o (none_yet draft.entries.posts || not (none_yet draft.rules))) (names xs None e h)
+  foreign_fits xs e h = ap (λ o. judge o (eqb (length draft.entries.posts) 0 || not (eqb (length draft.rules) 0))) (names xs None e h)
 
   module _ (xs : List Signal) (ws : List Word) (same : xs ≡ ss) (cut : words_of (map (λ s. name_bytes s.name) xs) text ≡ Some ws) where
-    judged : (b : Bool) → (none_yet draft.entries.posts || not (none_yet draft.rules)) ≡ b → first_case (rule_holds draft l text) ≡ judge (Some ws) b
+    judged : (b : Bool) → (eqb (length draft.entries.posts) 0 || not (eqb (length draft.rules) 0)) ≡ b → first_case (rule_holds draft l text) ≡ judge (Some ws) b
     unfolding judge
     judged b h =
-        ap (λ o. judge o (none_yet draft.entries.posts || not (none_yet draft.rules))) (names xs (Some ws) same cut)
+        ap (λ o. judge o (eqb (length draft.entries.posts) 0 || not (eqb (length draft.rules) 0))) (names xs (Some ws) same cut)
         ∙ ap (judge (Some ws)) h
 
     pub first_fits : (qs : List Post) → qs ≡ ps → true ≡ eqb (length qs) 0 → first_case (rule_holds draft l text) ≡ Some (on_line 3 l)
     unfolding judge
     first_fits qs e h =
-        judged true (ap (λ b. b || not (none_yet draft.rules)) (any_posts qs e ∙ sym h))
+        judged true (ap (λ b. b || not (eqb (length draft.rules) 0)) (any_posts qs e ∙ sym h))
 
-    pub second_fits : (qs : List Post) → qs ≡ ps → false ≡ eqb (length qs) 0 → none_yet fs ≡ false → first_case (rule_holds draft l text) ≡ Some (on_line 3 l)
+    pub second_fits : (qs : List Post) → qs ≡ ps → false ≡ eqb (length qs) 0 → eqb (length fs) 0 ≡ false → first_case (rule_holds draft l text) ≡ Some (on_line 3 l)
     unfolding judge
     second_fits qs e h r =
-        judged true (ap (λ b. b || not (none_yet draft.rules)) (any_posts qs e ∙ sym h)
+        judged true (ap (λ b. b || not (eqb (length draft.rules) 0)) (any_posts qs e ∙ sym h)
         ∙ ap not r)
 
     module _ (qs : List Post) (posts : qs ≡ ps) (some : false ≡ eqb (length qs) 0) (unruled : fs ≡ []) where
       pub words_decide : first_case (rule_holds draft l text) ≡ first_case (words_holds (length (map owned ss)) l ws)
       unfolding judge
       words_decide =
-          judged false (ap (λ b. b || not (none_yet draft.rules)) (any_posts qs posts ∙ sym some)
-          ∙ ap (λ z. not (none_yet z)) unruled)
+          judged false (ap (λ b. b || not (eqb (length draft.rules) 0)) (any_posts qs posts ∙ sym some)
+          ∙ ap (λ z. not (eqb (length z) 0)) unruled)
 
       pub rule_joins : (g : Formula) → g ≡ rule_formula ws → ◌≡◌ {A = Draft} (record { entries = draft.entries; rules = g ∷ [] }) (after_rule draft text)
       rule_joins g h =
