@@ -30,11 +30,6 @@ reach (Bracket ∷ fs) = reach fs
 reach (Before u ∷ fs) = reach fs
 reach (Between o i ∷ fs) = max (i + 1) (reach fs)
 
--- One past the place of the formula just read.
-abbrev pub past : Option ℕ → ℕ
-past None = 0
-past (Some i) = i + 1
-
 -- How much was made and waits: each word adds at most 2.
 abbrev pub load : List Part → List Frame → ℕ
 load ps fs = length ps + 2 * length fs

@@ -1,7 +1,8 @@
 //! A reader of rules.
-ghost use Rattle.std.specs.Prelude.{◌≡◌, ◌<◌, ◌≤◌, [], length, IfOk, Some, None, vec_capacity};
+ghost use Rattle.std.specs.Prelude.{◌≡◌, ◌<◌, ◌≤◌, [], length, IfOk, vec_capacity};
+ghost use Rattle.std.specs.Option.{ForSome};
 ghost use Rattle.parts.specs.Tables.{parts_of};
-ghost use Rattle.reader.specs.Waiting.{load, past, reach};
+ghost use Rattle.reader.specs.Waiting.{load, reach};
 ghost use Rattle.reader.specs.Answers.{Answers};
 
 use crate::building::{level, put_connective, put_leaf};
@@ -20,7 +21,7 @@ pub struct Reader {
     pub(crate) held: Option<u16>,
     ghost room: { 200 ≤ vec_capacity frames },
     ghost waiting_inside: { reach frames.items ≤ length (parts_of table) },
-    ghost held_inside: { past held ≤ length (parts_of table) },
+    ghost held_inside: { ForSome held (λ i. i < length (parts_of table)) },
     ghost few: { load (parts_of table) frames.items ≤ 400 },
 }
 

@@ -63,11 +63,11 @@ invariant_of-self c =
     let fewer = reach_popped (vec_items c.loop-frame.self.frames) (vec_items c.pop.new.self) _ c.in-Some.ensures.items in
     let one_less = length_popped (vec_items c.loop-frame.self.frames) (vec_items c.pop.new.self) _ c.in-Some.ensures.items in
     let grown = interned_grown _ _ _ _ c.unary.ensures in
-    record { room = omega arith; waiting_inside = omega arith; held_inside = omega arith; few = omega arith }
+    record { room = omega arith; waiting_inside = omega arith; held_inside = λ x e. let h = c.loop-frame.self.held_inside x e in omega arith; few = omega arith }
 
 pub invariant_of-self-in-Between : goal.invariant_of-self-in-Between
 invariant_of-self-in-Between c =
     let fewer = reach_popped (vec_items c.loop-frame.self.frames) (vec_items c.pop.new.self) _ c.in-Some.ensures.items in
     let one_less = length_popped (vec_items c.loop-frame.self.frames) (vec_items c.pop.new.self) _ c.in-Some.ensures.items in
     let grown = c.put_connective-x.ensures.grown in
-    record { room = omega arith; waiting_inside = omega arith; held_inside = omega arith; few = omega arith }
+    record { room = omega arith; waiting_inside = omega arith; held_inside = λ x e. let h = c.loop-frame.self.held_inside x e in omega arith; few = omega arith }

@@ -1,4 +1,4 @@
-use Rattle.std.proofs.Common.{vec_items, length, arith}
+use Rattle.std.proofs.Common.{◌≡◌, vec_items, length, rules, arith}
 use Rattle.parts.specs.Tables.{parts_of}
 use Rattle.reader.proofs.Waits.{length_popped, reach_popped, reach_pushed, took_leaf, took_sign, took_open, took_join, took_close}
 use Rattle.reader.proofs.reader.Reader.take.Goals as goal
@@ -28,14 +28,14 @@ invariant_of-self-in-None-Prefix c =
     let items = c.push_reserved.ensures.items in
     let inside = reach_pushed (vec_items c.args.self.now.frames) _ _ (length (parts_of c.args.self.now.table)) items (omega arith) (omega arith) in
     let one_more = length_popped _ (vec_items c.args.self.now.frames) _ items in
-    record { room = omega arith; waiting_inside = inside; held_inside = omega arith; few = omega arith }
+    record { room = omega arith; waiting_inside = inside; held_inside = search rules; few = omega arith }
 
 pub invariant_of-self-in-None-Open : goal.invariant_of-self-in-None-Open
 invariant_of-self-in-None-Open c =
     let items = c.push_reserved-in-None-Open.ensures.items in
     let inside = reach_pushed (vec_items c.args.self.now.frames) _ _ (length (parts_of c.args.self.now.table)) items (omega arith) (omega arith) in
     let one_more = length_popped _ (vec_items c.args.self.now.frames) _ items in
-    record { room = omega arith; waiting_inside = inside; held_inside = omega arith; few = omega arith }
+    record { room = omega arith; waiting_inside = inside; held_inside = search rules; few = omega arith }
 
 pub invariant_of-self-in-Some-Infix : goal.invariant_of-self-in-Some-Infix
 invariant_of-self-in-Some-Infix c =
@@ -44,11 +44,11 @@ invariant_of-self-in-Some-Infix c =
     let small = c.reduce-left.ensures.small in
     let inside = reach_pushed (vec_items c.reduce-left.new.self.frames) _ _ (length (parts_of c.reduce-left.new.self.table)) items (omega arith) (omega arith) in
     let one_more = length_popped _ (vec_items c.reduce-left.new.self.frames) _ items in
-    record { room = omega arith; waiting_inside = inside; held_inside = omega arith; few = omega arith }
+    record { room = omega arith; waiting_inside = inside; held_inside = λ x e. absurd (cc); few = omega arith }
 
 pub invariant_of-self-in-Some-Close : goal.invariant_of-self-in-Some-Close
 invariant_of-self-in-Some-Close c =
     let made = c.reduce.ensures.inside in
     let fewer = reach_popped (vec_items c.reduce.new.self.frames) (vec_items c.pop.new.self) _ c.pop.ensures.items in
     let less = length_popped (vec_items c.reduce.new.self.frames) (vec_items c.pop.new.self) _ c.pop.ensures.items in
-    record { room = omega arith; waiting_inside = omega arith; held_inside = omega arith; few = omega arith }
+    record { room = omega arith; waiting_inside = omega arith; held_inside = λ x e. let same : c.reduce.result ≡ x = cc in omega arith; few = omega arith }
