@@ -29,12 +29,15 @@ reach_left (Bracket ∷ fs) gs = reach_left fs gs
 reach_left (Before u ∷ fs) gs = reach_left fs gs
 reach_left (Between o i ∷ fs) gs = let h = reach_left fs gs in omega arith
 
--- What is left of the frames, once some were taken off.
-pub reach_popped : (gs fs hs : List Frame) → gs ≡ fs ++ hs → reach fs ≤ reach gs
+reach_popped : (gs fs hs : List Frame) → gs ≡ fs ++ hs → reach fs ≤ reach gs
 reach_popped gs fs hs e = let l = reach_left fs hs in omega (arith, ap reach e)
 
-pub length_popped : (gs fs hs : List Frame) → gs ≡ fs ++ hs → length fs + length hs ≡ length gs
+length_popped : (gs fs hs : List Frame) → gs ≡ fs ++ hs → length fs + length hs ≡ length gs
 length_popped gs fs hs e = omega (arith, length-append fs hs, ap length e)
+
+-- What is left of the frames, once some were taken off.
+pub popped_off : (gs fs hs : List Frame) → gs ≡ fs ++ hs → (reach fs ≤ reach gs) × (length fs + length hs ≡ length gs)
+popped_off gs fs hs e = (reach_popped gs fs hs e, length_popped gs fs hs e)
 
 reach_last : (fs : List Frame) (o : Connective) (i : ℕ) → i < reach (fs ++ (Between o i ∷ []))
 reach_last [] o i = omega arith
@@ -48,8 +51,10 @@ reach_both (Bracket ∷ fs) f n h k = reach_both fs f n h k
 reach_both (Before u ∷ fs) f n h k = reach_both fs f n h k
 reach_both (Between o i ∷ fs) f n h k = let e = reach_both fs f n (omega arith) k in omega arith
 
-pub reach_pushed : (fs gs : List Frame) (f : Frame) (n : ℕ) → gs ≡ fs ++ (f ∷ []) → reach fs ≤ n → reach (f ∷ []) ≤ n → reach gs ≤ n
-reach_pushed fs gs f n e h k = let b = reach_both fs f n h k in omega (arith, ap reach e)
+-- One more waits.
+pub pushed_on : (fs gs : List Frame) (f : Frame) (n : ℕ) → gs ≡ fs ++ (f ∷ []) → reach fs ≤ n → reach (f ∷ []) ≤ n → (reach gs ≤ n) × (length fs + 1 ≡ length gs)
+pushed_on fs gs f n e h k =
+    let b = reach_both fs f n h k in (omega (arith, ap reach e), length_popped gs fs (f ∷ []) e)
 
 -- What waits stays as the table grows.
 module _ (n : ℕ) (ps qs : List Part) (g : Formula) (y : ℕ) (made : Made n ps qs g y) where

@@ -19,6 +19,7 @@ abbrev pub draft_so_far : Reading → Draft
 draft_so_far b = record { entries = entries b.roster; rules = map rule_formula (vec_items b.rules) }
 
 -- The rule is still to come and its memory spare, or it was read and is over all the signals.
+-- It is no ghost field of a reading: on a fault the rule's memory is gone, and a post line promises nothing of the signals.
 pub record Ready (b : Reading) : Type 0 where
   pub one : option_len b.spare + vec_len b.rules ≡ 1
   pub over : All (λ r. r.signals ≡ vec_len b.roster.signals) (vec_items b.rules)

@@ -16,7 +16,6 @@ pub struct Reading {
     pub(crate) rules: Vec<Rule>,
     pub(crate) rule_reader: RuleReader,
     ghost room: { 1 ≤ vec_capacity rules },
-    // `Ready` is no ghost field: on a fault the rule's memory is gone, and a post line promises nothing of the signals.
 }
 
 impl Reading {

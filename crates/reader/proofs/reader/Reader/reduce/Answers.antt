@@ -5,7 +5,7 @@ use Rattle.parts.proofs.Making.{made_by, interned_grown}
 use Rattle.reader.specs.Waiting.{Reduced, holding, reducing}
 use Rattle.reader.specs.declared.frame.Frame.{Frame}
 use Rattle.reader.specs.declared.frame.Frame.TheVariants.{Bracket, Before, Between}
-use Rattle.reader.proofs.Waits.{popped_is, turn_sign, turn_join, left_inside, stays_join, stays_open, reduced_here, reach_popped, length_popped}
+use Rattle.reader.proofs.Waits.{popped_is, turn_sign, turn_join, left_inside, stays_join, stays_open, reduced_here, popped_off}
 use Rattle.reader.proofs.reader.Reader.reduce.Goals.{In-Some}
 use Rattle.reader.proofs.reader.Reader.reduce.Goals as goal
 
@@ -60,14 +60,12 @@ returns-in-Bracket c =
 
 pub invariant_of-self : goal.invariant_of-self
 invariant_of-self c =
-    let fewer = reach_popped (vec_items c.loop-frame.self.frames) (vec_items c.pop.new.self) _ c.in-Some.ensures.items in
-    let one_less = length_popped (vec_items c.loop-frame.self.frames) (vec_items c.pop.new.self) _ c.in-Some.ensures.items in
+    let left = popped_off (vec_items c.loop-frame.self.frames) (vec_items c.pop.new.self) _ c.in-Some.ensures.items in
     let grown = interned_grown _ _ _ _ c.unary.ensures in
     record { room = omega arith; waiting_inside = omega arith; held_inside = λ x e. let h = c.loop-frame.self.held_inside x e in omega arith; few = omega arith }
 
 pub invariant_of-self-in-Between : goal.invariant_of-self-in-Between
 invariant_of-self-in-Between c =
-    let fewer = reach_popped (vec_items c.loop-frame.self.frames) (vec_items c.pop.new.self) _ c.in-Some.ensures.items in
-    let one_less = length_popped (vec_items c.loop-frame.self.frames) (vec_items c.pop.new.self) _ c.in-Some.ensures.items in
+    let left = popped_off (vec_items c.loop-frame.self.frames) (vec_items c.pop.new.self) _ c.in-Some.ensures.items in
     let grown = c.put_connective-x.ensures.grown in
     record { room = omega arith; waiting_inside = omega arith; held_inside = λ x e. let h = c.loop-frame.self.held_inside x e in omega arith; few = omega arith }

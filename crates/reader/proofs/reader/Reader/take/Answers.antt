@@ -1,6 +1,6 @@
 use Rattle.std.proofs.Common.{◌≡◌, vec_items, length, rules, arith}
 use Rattle.parts.specs.Tables.{parts_of}
-use Rattle.reader.proofs.Waits.{length_popped, reach_popped, reach_pushed, took_leaf, took_sign, took_open, took_join, took_close}
+use Rattle.reader.proofs.Waits.{popped_off, pushed_on, took_leaf, took_sign, took_open, took_join, took_close}
 use Rattle.reader.proofs.reader.Reader.take.Goals as goal
 
 pub returns-in-None-Atom : goal.returns-in-None-Atom
@@ -25,30 +25,23 @@ returns-in-Some-Bracket c =
 
 pub invariant_of-self-in-None-Prefix : goal.invariant_of-self-in-None-Prefix
 invariant_of-self-in-None-Prefix c =
-    let items = c.push_reserved.ensures.items in
-    let inside = reach_pushed (vec_items c.args.self.now.frames) _ _ (length (parts_of c.args.self.now.table)) items (omega arith) (omega arith) in
-    let one_more = length_popped _ (vec_items c.args.self.now.frames) _ items in
-    record { room = omega arith; waiting_inside = inside; held_inside = search rules; few = omega arith }
+    let more = pushed_on (vec_items c.args.self.now.frames) _ _ (length (parts_of c.args.self.now.table)) c.push_reserved.ensures.items (omega arith) (omega arith) in
+    record { room = omega arith; waiting_inside = more.0; held_inside = search rules; few = omega arith }
 
 pub invariant_of-self-in-None-Open : goal.invariant_of-self-in-None-Open
 invariant_of-self-in-None-Open c =
-    let items = c.push_reserved-in-None-Open.ensures.items in
-    let inside = reach_pushed (vec_items c.args.self.now.frames) _ _ (length (parts_of c.args.self.now.table)) items (omega arith) (omega arith) in
-    let one_more = length_popped _ (vec_items c.args.self.now.frames) _ items in
-    record { room = omega arith; waiting_inside = inside; held_inside = search rules; few = omega arith }
+    let more = pushed_on (vec_items c.args.self.now.frames) _ _ (length (parts_of c.args.self.now.table)) c.push_reserved-in-None-Open.ensures.items (omega arith) (omega arith) in
+    record { room = omega arith; waiting_inside = more.0; held_inside = search rules; few = omega arith }
 
 pub invariant_of-self-in-Some-Infix : goal.invariant_of-self-in-Some-Infix
 invariant_of-self-in-Some-Infix c =
-    let items = c.push_reserved-in-Some-Infix.ensures.items in
     let left = c.reduce-left.ensures.inside in
     let small = c.reduce-left.ensures.small in
-    let inside = reach_pushed (vec_items c.reduce-left.new.self.frames) _ _ (length (parts_of c.reduce-left.new.self.table)) items (omega arith) (omega arith) in
-    let one_more = length_popped _ (vec_items c.reduce-left.new.self.frames) _ items in
-    record { room = omega arith; waiting_inside = inside; held_inside = λ x e. absurd (cc); few = omega arith }
+    let more = pushed_on (vec_items c.reduce-left.new.self.frames) _ _ (length (parts_of c.reduce-left.new.self.table)) c.push_reserved-in-Some-Infix.ensures.items (omega arith) (omega arith) in
+    record { room = omega arith; waiting_inside = more.0; held_inside = λ x e. absurd (cc); few = omega arith }
 
 pub invariant_of-self-in-Some-Close : goal.invariant_of-self-in-Some-Close
 invariant_of-self-in-Some-Close c =
     let made = c.reduce.ensures.inside in
-    let fewer = reach_popped (vec_items c.reduce.new.self.frames) (vec_items c.pop.new.self) _ c.pop.ensures.items in
-    let less = length_popped (vec_items c.reduce.new.self.frames) (vec_items c.pop.new.self) _ c.pop.ensures.items in
+    let left = popped_off (vec_items c.reduce.new.self.frames) (vec_items c.pop.new.self) _ c.pop.ensures.items in
     record { room = omega arith; waiting_inside = omega arith; held_inside = λ x e. let same : c.reduce.result ≡ x = cc in omega arith; few = omega arith }
