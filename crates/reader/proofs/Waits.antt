@@ -1,5 +1,5 @@
 -- The reader's frames over a table that grows, as the machine's state.
-use Rattle.std.proofs.Common.{◌≡◌, ℕ, suc, ◌+◌, ◌<◌, ◌≤◌, true, false, eqb, leb, List, [], ◌∷◌, ◌++◌, map, reverse, length, Some, None, Option, sym, refl, ap, ◌∙◌, subst, arith}
+use Rattle.std.proofs.Common.{◌≡◌, ℕ, suc, ◌+◌, ◌<◌, ◌≤◌, eqb, leb, List, [], ◌∷◌, ◌++◌, map, reverse, length, Some, None, Option, sym, refl, ap, ◌∙◌, subst, arith}
 use Rattle.std.specs.Bool.{then_some}
 use Rattle.std.proofs.lemmas.List.{map-append, reverse-append, length-append, length_push}
 use Rattle.std.proofs.lemmas.Bool.{lt-leb, cond-false, ne_eqb}
@@ -29,12 +29,15 @@ reach_left (Bracket ∷ fs) gs = reach_left fs gs
 reach_left (Before u ∷ fs) gs = reach_left fs gs
 reach_left (Between o i ∷ fs) gs = let h = reach_left fs gs in omega arith
 
--- What is left of the frames, once some were taken off.
-pub reach_popped : (gs fs hs : List Frame) → gs ≡ fs ++ hs → reach fs ≤ reach gs
+reach_popped : (gs fs hs : List Frame) → gs ≡ fs ++ hs → reach fs ≤ reach gs
 reach_popped gs fs hs e = let l = reach_left fs hs in omega (arith, ap reach e)
 
-pub length_popped : (gs fs hs : List Frame) → gs ≡ fs ++ hs → length fs + length hs ≡ length gs
+length_popped : (gs fs hs : List Frame) → gs ≡ fs ++ hs → length fs + length hs ≡ length gs
 length_popped gs fs hs e = omega (arith, length-append fs hs, ap length e)
+
+-- What is left of the frames, once some were taken off.
+pub popped_off : (gs fs hs : List Frame) → gs ≡ fs ++ hs → (reach fs ≤ reach gs) × (length fs + length hs ≡ length gs)
+popped_off gs fs hs e = (reach_popped gs fs hs e, length_popped gs fs hs e)
 
 reach_last : (fs : List Frame) (o : Connective) (i : ℕ) → i < reach (fs ++ (Between o i ∷ []))
 reach_last [] o i = omega arith
@@ -48,8 +51,10 @@ reach_both (Bracket ∷ fs) f n h k = reach_both fs f n h k
 reach_both (Before u ∷ fs) f n h k = reach_both fs f n h k
 reach_both (Between o i ∷ fs) f n h k = let e = reach_both fs f n (omega arith) k in omega arith
 
-pub reach_pushed : (fs gs : List Frame) (f : Frame) (n : ℕ) → gs ≡ fs ++ (f ∷ []) → reach fs ≤ n → reach (f ∷ []) ≤ n → reach gs ≤ n
-reach_pushed fs gs f n e h k = let b = reach_both fs f n h k in omega (arith, ap reach e)
+-- One more waits.
+pub pushed_on : (fs gs : List Frame) (f : Frame) (n : ℕ) → gs ≡ fs ++ (f ∷ []) → reach fs ≤ n → reach (f ∷ []) ≤ n → (reach gs ≤ n) × (length fs + 1 ≡ length gs)
+pushed_on fs gs f n e h k =
+    let b = reach_both fs f n h k in (omega (arith, ap reach e), length_popped gs fs (f ∷ []) e)
 
 -- What waits stays as the table grows.
 module _ (n : ℕ) (ps qs : List Part) (g : Formula) (y : ℕ) (made : Made n ps qs g y) where
@@ -94,11 +99,6 @@ module _ (b : ℕ) (ps qs : List Part) (gs fs : List Frame) (x y : ℕ) (low : r
       turn 2 (Between o i) (connectˢ o (formula ps i) (formula ps x)) (omega arith) e m
       (sym (reduce_left short b o (formula ps i) (formula ps x) (stack (formula ps) fs) t))
 
--- The turns so far, and one more.
-pub turn_on : (b : ℕ) (ps qs : List Part) (gs fs : List Frame) (x y n : ℕ) (r : Formula × List Held) → Turn b ps gs x qs fs y → load ps gs ≤ n → reducing b ps gs x ≡ r
-    → (y < length qs) × (load qs fs ≤ n) × (reducing b qs fs y ≡ r)
-turn_on b ps qs gs fs x y n r t l e = let m = t.small in (t.inside, omega arith, t.left ∙ e)
-
 -- The frame that was taken off.
 pub popped_is : (gs fs : List Frame) (f g : Frame) → gs ≡ fs ++ (f ∷ []) → f ≡ g → gs ≡ fs ++ (g ∷ [])
 popped_is gs fs f g e q = e ∙ ap (λ z. fs ++ (z ∷ [])) q
@@ -128,10 +128,10 @@ reduced_here b ps fs x qs gs hs y e f l h = subst (λ z. Reduced b ps fs x qs z 
 
 -- A word where an operand is wanted. Each law takes what the code knows as equations.
 pub took_leaf : (w : Word) (a : Leaf) (h : Option ℕ) (ps qs : List Part) (fs : List Frame) (i : ℕ) → w ≡ Atom a → h ≡ None → reach fs ≤ length ps → Made 1 ps qs (leaf a) i
-    → Took w h ps fs (Some i) qs fs true
+    → Took w h ps fs (Some i) qs fs
 took_leaf w a h ps qs fs i e n r m =
     let k = m.grown.few in
-    subst (λ z. Took w z ps fs (Some i) qs fs true) (sym n) (
+    subst (λ z. Took w z ps fs (Some i) qs fs) (sym n) (
       omega arith,
       ap (λ z. have z (formula qs i)) (stack_made 1 ps qs (leaf a) i m fs r) ∙ ap (have (stack (formula ps) fs)) m.stands.formula_is
           ∙ sym (ap (step short (want (stack (formula ps) fs))) e),
@@ -144,51 +144,39 @@ pushed ps fs gs f q =
     let l = length_push fs f in (omega (arith, ap length q), ap (stack (formula ps)) q ∙ stack_push (formula ps) fs f)
 
 pub took_sign : (w : Word) (u : Unary) (h : Option ℕ) (ps : List Part) (fs gs : List Frame) → w ≡ Prefix u → h ≡ None
-    → gs ≡ fs ++ (Before u ∷ []) → Took w h ps fs h ps gs true
+    → gs ≡ fs ++ (Before u ∷ []) → Took w h ps fs h ps gs
 took_sign w u h ps fs gs e n q =
     let k = pushed ps fs gs (Before u) q in
-    subst (λ z. Took w z ps fs z ps gs true) (sym n) (k.0, ap want k.1 ∙ sym (ap (step short (want (stack (formula ps) fs))) e))
+    subst (λ z. Took w z ps fs z ps gs) (sym n) (k.0, ap want k.1 ∙ sym (ap (step short (want (stack (formula ps) fs))) e))
 
 pub took_open : (w : Word) (h : Option ℕ) (ps : List Part) (fs gs : List Frame) → w ≡ Open → h ≡ None
-    → gs ≡ fs ++ (Bracket ∷ []) → Took w h ps fs h ps gs true
+    → gs ≡ fs ++ (Bracket ∷ []) → Took w h ps fs h ps gs
 took_open w h ps fs gs e n q =
     let k = pushed ps fs gs Bracket q in
-    subst (λ z. Took w z ps fs z ps gs true) (sym n) (k.0, ap want k.1 ∙ sym (ap (step short (want (stack (formula ps) fs))) e))
+    subst (λ z. Took w z ps fs z ps gs) (sym n) (k.0, ap want k.1 ∙ sym (ap (step short (want (stack (formula ps) fs))) e))
 
 -- A word after a formula.
 pub took_join : (w : Word) (o : Connective) (b x y : ℕ) (h : Option ℕ) (ps qs : List Part) (fs gs hs : List Frame) → w ≡ Infix o → h ≡ Some x
-    → Reduced b ps fs x qs gs y → b ≡ suc (level o) → hs ≡ gs ++ (Between o y ∷ []) → Took w h ps fs None qs hs true
+    → Reduced b ps fs x qs gs y → b ≡ suc (level o) → hs ≡ gs ++ (Between o y ∷ []) → Took w h ps fs None qs hs
 took_join w o b x y h ps qs fs gs hs e n r i q =
     let l = r.small in
     let k = pushed qs gs hs (Between o y) q in
     let m = k.0 in
-    subst (λ z. Took w z ps fs None qs hs true) (sym n) (
+    subst (λ z. Took w z ps fs None qs hs) (sym n) (
       omega arith,
       ap want k.1 ∙ ap (waits o) (r.pair ∙ ap (λ n. reducing n ps fs x) i) ∙ sym (ap (step short (state_of (Some x) ps fs)) e),
     )
 
 pub took_close : (w : Word) (f : Frame) (x y : ℕ) (h : Option ℕ) (ps qs : List Part) (fs gs hs : List Frame) → w ≡ Close → h ≡ Some x → Reduced 0 ps fs x qs hs y
-    → hs ≡ gs ++ (f ∷ []) → f ≡ Bracket → Took w h ps fs (Some y) qs gs true
+    → hs ≡ gs ++ (f ∷ []) → f ≡ Bracket → Took w h ps fs (Some y) qs gs
 took_close w f x y h ps qs fs gs hs e o r q i =
     let n = length_push gs f in
     let m = r.small in
     let d = ap (stack (formula qs)) (q ∙ ap (λ z. gs ++ (z ∷ [])) i) ∙ stack_push (formula qs) gs Bracket in
-    subst (λ z. Took w z ps fs (Some y) qs gs true) (sym o) (
+    subst (λ z. Took w z ps fs (Some y) qs gs) (sym o) (
       omega (arith, ap length q),
       ap closed (ap (λ z. (formula qs y, z)) (sym d) ∙ r.pair) ∙ sym (ap (step short (state_of (Some x) ps fs)) e),
     )
-
-unopened : (at : ℕ → Formula) (f : Frame) (x : Formula) (s : List Held) → (f ≡ Bracket → ⊥) → closed (x, waiting at f ∷ s) ≡ stuck
-unopened at Bracket x s n = absurd (n refl)
-unopened at (Before u) x s n = refl
-unopened at (Between o i) x s n = refl
-
-pub took_unclosed : (w : Word) (f : Frame) (x y : ℕ) (h : Option ℕ) (ps qs : List Part) (fs gs hs : List Frame) → w ≡ Close → h ≡ Some x → Reduced 0 ps fs x qs hs y
-    → hs ≡ gs ++ (f ∷ []) → (f ≡ Bracket → ⊥) → Took w h ps fs (Some y) qs gs false
-took_unclosed w f x y h ps qs fs gs hs e n r q i =
-    let d = ap (stack (formula qs)) q ∙ stack_push (formula qs) gs f in
-    ap (λ z. step short (state_of z ps fs) w) n ∙ ap (step short (state_of (Some x) ps fs)) e
-    ∙ ap closed (sym r.pair ∙ ap (λ z. (formula qs y, z)) d) ∙ unopened (formula qs) f (formula qs y) (stack (formula qs) gs) i
 
 -- The end: the formula, if nothing waits.
 ended_open : (f : Formula) (s : List Held) (h : Held) → ended f (s ++ (h ∷ [])) ≡ None

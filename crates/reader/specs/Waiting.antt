@@ -1,10 +1,10 @@
 -- The machine's state, as the reader holds it.
-use Rattle.std.specs.Prelude.{◌≡◌, ℕ, ◌+◌, ◌*◌, ◌<◌, ◌≤◌, max, Bool, true, false, List, [], ◌∷◌, map, reverse, length, Some, None, Option}
+use Rattle.std.specs.Prelude.{◌≡◌, ℕ, ◌+◌, ◌*◌, ◌<◌, ◌≤◌, max, List, [], ◌∷◌, map, reverse, length, Some, None, Option}
 use Rattle.temporal.specs.Formula.{Formula}
 use Rattle.parts.specs.declared.part.Part.{Part}
 use Rattle.parts.specs.Places.{formula}
 use Rattle.words.specs.declared.word.Word.{Word}
-use Rattle.grammar.specs.Machine.{short, Held, opened, signed, halfway, State, want, have, stuck, reduce, step, ending}
+use Rattle.grammar.specs.Machine.{short, Held, opened, signed, halfway, State, want, have, reduce, step, ending}
 use Rattle.reader.specs.declared.frame.Frame.{Frame}
 use Rattle.reader.specs.declared.frame.Frame.TheVariants.{Bracket, Before, Between}
 
@@ -30,11 +30,6 @@ reach (Bracket ∷ fs) = reach fs
 reach (Before u ∷ fs) = reach fs
 reach (Between o i ∷ fs) = max (i + 1) (reach fs)
 
--- One past the place of the formula just read.
-abbrev pub past : Option ℕ → ℕ
-past None = 0
-past (Some i) = i + 1
-
 -- How much was made and waits: each word adds at most 2.
 abbrev pub load : List Part → List Frame → ℕ
 load ps fs = length ps + 2 * length fs
@@ -52,11 +47,9 @@ pub record Reduced (b : ℕ) (ps : List Part) (fs : List Frame) (x : ℕ) (qs : 
   pub small : load qs gs ≤ load ps fs
   pub pair : holding qs gs y ≡ reducing b ps fs x
 
--- Whether the word could stand after the state of h, ps and fs: then that of k, qs and gs is the next one, and at most 2 was
--- added.
-abbrev pub Took : Word → Option ℕ → List Part → List Frame → Option ℕ → List Part → List Frame → Bool → Type 0
-Took w h ps fs k qs gs true = (load qs gs ≤ load ps fs + 2) × (state_of k qs gs ≡ step short (state_of h ps fs) w)
-Took w h ps fs k qs gs false = step short (state_of h ps fs) w ≡ stuck
+-- The word was read after the state of h, ps and fs: that of k, qs and gs is the next one, and at most 2 was added.
+abbrev pub Took : Word → Option ℕ → List Part → List Frame → Option ℕ → List Part → List Frame → Type 0
+Took w h ps fs k qs gs = (load qs gs ≤ load ps fs + 2) × (state_of k qs gs ≡ step short (state_of h ps fs) w)
 
 -- The rule may end after the state of h, ps and fs: then its formula stands at a place of qs.
 abbrev pub Ended : Option ℕ → List Part → List Frame → List Part → Option ℕ → Type 0

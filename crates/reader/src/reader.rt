@@ -1,7 +1,8 @@
 //! A reader of rules.
-ghost use Rattle.std.specs.Prelude.{◌≡◌, ◌<◌, ◌≤◌, [], length, IfOk, Some, None, vec_capacity};
+ghost use Rattle.std.specs.Prelude.{◌≡◌, ◌<◌, ◌≤◌, [], length, IfOk, vec_capacity};
+ghost use Rattle.std.specs.Option.{ForSome};
 ghost use Rattle.parts.specs.Tables.{parts_of};
-ghost use Rattle.reader.specs.Waiting.{load, past, reach};
+ghost use Rattle.reader.specs.Waiting.{load, reach};
 ghost use Rattle.reader.specs.Answers.{Answers};
 
 use crate::building::{level, put_connective, put_leaf};
@@ -20,7 +21,7 @@ pub struct Reader {
     pub(crate) held: Option<u16>,
     ghost room: { 200 ≤ vec_capacity frames },
     ghost waiting_inside: { reach frames.items ≤ length (parts_of table) },
-    ghost held_inside: { past held ≤ length (parts_of table) },
+    ghost held_inside: { ForSome held (λ i. i < length (parts_of table)) },
     ghost few: { load (parts_of table) frames.items ≤ 400 },
 }
 
@@ -75,61 +76,38 @@ impl Reader {
         x
     }
 
-    /// Takes the next word, where an operand is wanted; answers whether it can stand there.
-    fn take_operand(&mut self, word: Word) -> bool
-        requires wanted { self.old.held ≡ None }
-        requires room { load_of self.old ≤ 398 }
-        ensures { Takes word self.old self.new result }
-    {
-        match word {
-            Word::Atom(leaf) => {
-                self.held = Some(put_leaf(&mut self.table, leaf));
-                true
-            }
-            Word::Prefix(sign) => {
-                self.frames.push_reserved(Frame::Before(sign));
-                true
-            }
-            Word::Open => {
-                self.frames.push_reserved(Frame::Bracket);
-                true
-            }
-            Word::Infix(_) | Word::Close | Word::Stray => false,
-        }
-    }
-
-    /// Takes the next word, after the formula at `x`; answers whether it can stand there.
-    fn take_after(&mut self, x: u16, word: Word) -> bool
-        requires held { self.old.held ≡ Some x }
-        requires room { load_of self.old ≤ 398 }
-        ensures { Takes word self.old self.new result }
-    {
-        match word {
-            Word::Infix(by) => {
-                let left = self.reduce(level(by) + 1, x);
-                self.frames.push_reserved(Frame::Between(by, left));
-                self.held = None;
-                true
-            }
-            Word::Close => {
-                self.held = Some(self.reduce(0, x));
-                let Some(frame) = self.frames.pop() else {
-                    return false;
-                };
-                matches!(frame, Frame::Bracket)
-            }
-            Word::Atom(_) | Word::Prefix(_) | Word::Open | Word::Stray => false,
-        }
-    }
-
-    /// Takes the next word; answers whether it can stand there.
-    fn take(&mut self, word: Word) -> bool
+    /// Takes the next word, if it can stand there.
+    fn take(&mut self, word: Word) -> Option<()>
         requires { load_of self.old ≤ 398 }
         ensures { Takes word self.old self.new result }
     {
-        match self.held {
-            None => self.take_operand(word),
-            Some(x) => self.take_after(x, word),
+        match (self.held, word) {
+            (None, Word::Atom(leaf)) => {
+                self.held = Some(put_leaf(&mut self.table, leaf));
+                Some(())
+            }
+            (None, Word::Prefix(sign)) => {
+                self.frames.push_reserved(Frame::Before(sign));
+                Some(())
+            }
+            (None, Word::Open) => {
+                self.frames.push_reserved(Frame::Bracket);
+                Some(())
+            }
+            (Some(x), Word::Infix(by)) => {
+                let left = self.reduce(level(by) + 1, x);
+                self.frames.push_reserved(Frame::Between(by, left));
+                self.held = None;
+                Some(())
+            }
+            (Some(x), Word::Close) => {
+                self.held = Some(self.reduce(0, x));
+                let Some(Frame::Bracket) = self.frames.pop() else {
+                    return None;
+                };
+                Some(())
+            }
+            _ => None,
         }
     }
 
@@ -151,9 +129,7 @@ impl Reader {
         self.frames.clear();
         self.held = None;
         for (i, word) in words.iter().enumerate() {
-            if !self.take(*word) {
-                return Err(Misplaced { word: i });
-            }
+            self.take(*word).ok_or(Misplaced { word: i })?;
         }
         self.finish().ok_or(Misplaced { word: words.len() })
     }

@@ -1,5 +1,6 @@
 pub mod Single
 pub mod Mapped
+pub mod Exits
 pub mod Wording
 pub mod Ruling
 pub mod Wholes

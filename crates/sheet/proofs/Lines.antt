@@ -1,24 +1,22 @@
 -- One line after the other.
-use Rattle.std.proofs.Common.{◌≡◌, ℕ, suc, ◌<◌, Bool, true, false, cond, not, ◌||◌, eqb, List, [], ◌∷◌, ◌++◌, length, drop, drop-cons, is_some, IsErrAnd, OnOk, Some, None, Ok, Err, Option, Result, sym, refl, ap, ◌∙◌, subst, arith}
+use Rattle.std.proofs.Common.{◌≡◌, ℕ, suc, ◌<◌, Bool, true, false, cond, not, ◌||◌, eqb, List, [], ◌∷◌, ◌++◌, length, drop, drop-cons, is_some, OnOk, Some, None, Ok, Err, Option, Result, sym, refl, ap, ◌∙◌, arith}
 use Rattle.std.specs.Iterator.{Yields}
 use Rattle.std.specs.List.{onto_first, slice_split}
 use Rattle.std.proofs.lemmas.Iterator.{YieldsList}
 use Rattle.std.proofs.lemmas.Iterator.Consumers.{YieldsList-end, YieldsList-turn}
 use Rattle.std.proofs.lemmas.List.{drop_all, length_push}
-use Rattle.std.proofs.lemmas.Result.{err_from_is_err_and}
 use Rattle.std.proofs.lemmas.Bool.{true≢false}
 use Rattle.temporal.specs.Formula.{Formula}
-use Rattle.holds.specs.Cases.{Hold, Cases, first_case, on_line}
+use Rattle.holds.specs.Cases.{Hold, first_case, on_line}
 use Rattle.holds.proofs.Cases.{first_case_means, front_fits, past_fits}
 use Rattle.roster.specs.Entries.{Entries, after_post, post_holds, post_line}
-use Rattle.roster.specs.Faults.{answered}
 use Rattle.roster.specs.Rosters.{Judged}
 use Rattle.roster.specs.declared.fault.SheetFault.{SheetFault}
 use Rattle.sheet.specs.Sheets.{Drafted}
-use Rattle.sheet.specs.Texts.{Draft, after_line, after_lines, after_rule, is_rule_line, line_holds, lines, lines_holds, none_yet, rule_holds}
+use Rattle.sheet.specs.Texts.{Draft, after_line, after_lines, after_rule, is_rule_line, line_holds, lines, lines_holds, rule_holds}
 
 -- A line that is no rule line, where fs are the rules so far.
-pub as_post_line : {A : Type 0} (e got : Entries) (fs : List Formula) (ruled : Bool) (l : ℕ) (bs : List ℕ) (r : Result A SheetFault) → Judged (post_holds e ruled l bs) (after_post e bs) got r → ruled ≡ not (none_yet fs) → is_rule_line bs ≡ false → Drafted (line_holds (record { entries = e; rules = fs }) l bs) (after_line (record { entries = e; rules = fs }) bs) (record { entries = got; rules = fs }) r
+pub as_post_line : {A : Type 0} (e got : Entries) (fs : List Formula) (ruled : Bool) (l : ℕ) (bs : List ℕ) (r : Result A SheetFault) → Judged (post_holds e ruled l bs) (after_post e bs) got r → ruled ≡ not (eqb (length fs) 0) → is_rule_line bs ≡ false → Drafted (line_holds (record { entries = e; rules = fs }) l bs) (after_line (record { entries = e; rules = fs }) bs) (record { entries = got; rules = fs }) r
 as_post_line e got fs ruled l bs r j k b = go r j
   where
     d : Draft
@@ -26,7 +24,7 @@ as_post_line e got fs ruled l bs r j k b = go r j
 
     tests : first_case (line_holds d l bs) ≡ first_case (post_holds e ruled l bs)
     tests =
-        ap (λ t. first_case (cond t (rule_holds d l (drop 5 bs)) (post_holds e (not (none_yet fs)) l bs))) b
+        ap (λ t. first_case (cond t (rule_holds d l (drop 5 bs)) (post_holds e (not (eqb (length fs) 0)) l bs))) b
         ∙ ap (λ t. first_case (post_holds e t l bs)) (sym k)
 
     after : after_line d bs ≡ record { entries = after_post e bs; rules = fs }
@@ -70,11 +68,6 @@ pub last_part : {S A B : Type 0} {steps : S → Option A → S → Type 0} {v : 
 last_part {ls = ls} xs t y r u e k road =
     let end = (YieldsList-end road xs t y r u e k).1 in drop_all (length xs) ls (omega arith)
 
--- The exit of a `?`.
-pub drafted_exit : {A : Type 0} (ts : Cases Hold) (want got : Draft) (r : Result A SheetFault) (f : SheetFault) → IsErrAnd r (λ e. e ≡ f) → first_case ts ≡ Some (answered f) → Drafted ts want got r
-drafted_exit ts want got r f h e =
-    let p = err_from_is_err_and r h in subst (Drafted ts want got) (sym (p.1 ∙ ap Err p.2)) e
-
 -- The first of some lines.
 module _ (d : Draft) (l : ℕ) (ls : List (List ℕ)) (x : List ℕ) (xs : List (List ℕ)) (split : ls ≡ x ∷ xs) where
   pub line_breaks : (h : Hold) → first_case (line_holds d l x) ≡ Some h → first_case (lines_holds d l ls) ≡ Some h
@@ -91,5 +84,5 @@ module _ (d : Draft) (l : ℕ) (ls : List (List ℕ)) (x : List ℕ) (xs : List 
   line_joins c q = ap (λ z. after_lines z xs) q ∙ sym (ap (after_lines d) split)
 
 -- Behind the last line.
-pub behind : (e : Entries) (fs : List Formula) (l : ℕ) (b : Bool) → none_yet fs ≡ b → first_case (lines_holds (record { entries = e; rules = fs }) l []) ≡ cond b (Some (on_line 3 l)) None
+pub behind : (e : Entries) (fs : List Formula) (l : ℕ) (b : Bool) → eqb (length fs) 0 ≡ b → first_case (lines_holds (record { entries = e; rules = fs }) l []) ≡ cond b (Some (on_line 3 l)) None
 behind e fs l b h = ap (λ t. cond t (Some (on_line 3 l)) None) h

@@ -1,5 +1,6 @@
--- What `map_err` leaves: an `Ok` as it was, and the one fault for an `Err`.
-use Rattle.std.proofs.Common.{◌≡◌, IsErrAnd, Ok, Err, Result, refl, ap}
+-- What `map_err` and `ok_or` leave: an `Ok` as it was, and the one fault for an `Err` or a `None`.
+use Rattle.std.proofs.Common.{◌≡◌, IsErrAnd, Some, None, Ok, Err, Option, Result, refl, ap}
+use Rattle.std.specs.Option.{ok_or}
 use Rattle.std.specs.Result.{MatchResult}
 use Rattle.std.proofs.lemmas.Result.{err_from_is_err_and}
 
@@ -16,3 +17,11 @@ pub err_was : {T D E : Type 0} (r : Result T E) (q : Result T D) (f d : D) → M
 err_was (Ok y) q f d m e = absurd (cc)
 err_was (Err g) q f d m e =
     let p = err_from_is_err_and q m in let k = p.1 in let w = p.2 in ((g, refl), cc)
+
+pub some_was : {T D : Type 0} (o : Option T) (f : D) (x : T) → ok_or o f ≡ Ok x → o ≡ Some x
+some_was (Some y) f x e = cc
+some_was None f x e = absurd (cc)
+
+pub none_was : {T D : Type 0} (o : Option T) (f d : D) → ok_or o f ≡ Err d → (o ≡ None) × (d ≡ f)
+none_was (Some y) f d e = absurd (cc)
+none_was None f d e = (refl, cc)

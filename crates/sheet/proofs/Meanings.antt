@@ -1,5 +1,5 @@
 -- What an accepted sheet means.
-use Rattle.std.proofs.Common.{◌≡◌, ℕ, suc, ◌≤◌, Bool, true, false, cond, not, ◌||◌, List, [], ◌∷◌, ◌++◌, length, take, drop, is_some, Some, None, codes, Option, unwrap_or, sym, refl, ap, ◌∙◌, subst, append_assoc}
+use Rattle.std.proofs.Common.{◌≡◌, ℕ, suc, ◌≤◌, Bool, true, false, cond, not, ◌||◌, List, [], ◌∷◌, ◌++◌, length, take, drop, is_some, Some, None, codes, Option, unwrap_or, sym, refl, ap, ◌∙◌, subst, append_assoc, eqb}
 use Rattle.std.proofs.lemmas.Slice.Eq.{bytes_eq-Decides}
 use Rattle.std.proofs.lemmas.List.{take-append-drop}
 use Rattle.std.proofs.lemmas.Bool.{ltb-false, true≢false}
@@ -16,7 +16,7 @@ use Rattle.grammar.proofs.Faults.{misplaced_means}
 use Rattle.grammar.proofs.Readings.{raw_means}
 use Rattle.roster.specs.Entries.{PostLine, after_post, post_holds, post_line, signal_names}
 use Rattle.roster.proofs.Writing.{Says, says_more}
-use Rattle.sheet.specs.Texts.{Draft, Meant, after_line, after_lines, after_rule, is_rule_line, line_holds, lines_holds, none_yet, rule_formula, rule_holds, rule_words}
+use Rattle.sheet.specs.Texts.{Draft, Meant, after_line, after_lines, after_rule, is_rule_line, line_holds, lines_holds, rule_formula, rule_holds, rule_words}
 use Rattle.sheet.proofs.Lines.{or_off, unruled}
 
 -- What a rule line that passed means.
@@ -36,7 +36,7 @@ none_at : (o : Option ℕ) → is_some o ≡ false → o ≡ None
 none_at None e = refl
 none_at (Some k) e = absurd (true≢false e)
 
-pub passed : (d : Draft) (l : ℕ) (text : List ℕ) → first_case (rule_holds d l text) ≡ None → Passed d text × (not (none_yet d.rules) ≡ false)
+pub passed : (d : Draft) (l : ℕ) (text : List ℕ) → first_case (rule_holds d l text) ≡ None → Passed d text × (not (eqb (length d.rules) 0) ≡ false)
 passed d l text e =
     let off = (first_case_means Hold (rule_holds d l text)).0 e in
     let words = off.1.1 in
@@ -54,7 +54,7 @@ passed d l text e =
         formula_is = formula;
         small = subst (λ f. length (parts f) ≤ 64) formula few;
       },
-      or_off (none_yet d.entries.posts) (not (none_yet d.rules)) off.1.0,
+      or_off (eqb (length d.entries.posts) 0) (not (eqb (length d.rules) 0)) off.1.0,
     )
 
 -- Behind a rule nothing passes.
@@ -62,12 +62,12 @@ ends : (d : Draft) (l : ℕ) (f : Formula) (xs : List (List ℕ)) → d.rules �
 ends d l f [] r e = refl
 ends d l f (x ∷ xs) r e = absurd (go (is_rule_line x) (none_in_front (line_holds d l x) (lines_holds (after_line d x) (suc l) xs) e))
   where
-    ruled : not (none_yet d.rules) ≡ true
-    ruled = ap (λ z. not (none_yet z)) r
+    ruled : not (eqb (length d.rules) 0) ≡ true
+    ruled = ap (λ z. not (eqb (length z) 0)) r
 
-    go : (b : Bool) → first_case (cond b (rule_holds d l (drop 5 x)) (post_holds d.entries (not (none_yet d.rules)) l x)) ≡ None → ⊥
+    go : (b : Bool) → first_case (cond b (rule_holds d l (drop 5 x)) (post_holds d.entries (not (eqb (length d.rules) 0)) l x)) ≡ None → ⊥
     go true h = true≢false (sym ruled ∙ (passed d l (drop 5 x) h).1)
-    go false h = true≢false (sym ruled ∙ unruled d.entries (not (none_yet d.rules)) l x h)
+    go false h = true≢false (sym ruled ∙ unruled d.entries (not (eqb (length d.rules) 0)) l x h)
 
 some_line : (o : Option PostLine) (b : Bool) → (not (is_some o) || b) ≡ false → (p : PostLine) × (o ≡ Some p)
 some_line None b h = absurd (true≢false h)
@@ -76,7 +76,7 @@ some_line (Some p) b h = (p, refl)
 -- The lines before are those of the entries so far.
 pub meant : (d : Draft) (l : ℕ) (before xs : List (List ℕ)) → Says d.entries before → d.rules ≡ [] → first_case (lines_holds d l xs) ≡ None → Meant (before ++ xs) (after_lines d xs)
 meant d l before [] s r e =
-    absurd (true≢false (sym (ap none_yet r) ∙ ((first_case_means Hold (lines_holds d l [])).0 e).0))
+    absurd (true≢false (sym (ap (λ z. eqb (length z) 0) r) ∙ ((first_case_means Hold (lines_holds d l [])).0 e).0))
 meant d l before (x ∷ xs) s r e = go (is_rule_line x) refl (meant (after_line d x) (suc l) (before ++ x ∷ []) xs)
   where
     first : first_case (line_holds d l x) ≡ None
@@ -89,9 +89,9 @@ meant d l before (x ∷ xs) s r e = go (is_rule_line x) refl (meant (after_line 
     begun b =
         sym (take-append-drop 5 x) ∙ ap (λ z. z ++ drop 5 x) ((bytes_eq-Decides (take 5 x) (codes "rule ")).0 b)
 
-    judged : (b : Bool) → is_rule_line x ≡ b → first_case (cond b (rule_holds d l (drop 5 x)) (post_holds d.entries (not (none_yet d.rules)) l x)) ≡ None
+    judged : (b : Bool) → is_rule_line x ≡ b → first_case (cond b (rule_holds d l (drop 5 x)) (post_holds d.entries (not (eqb (length d.rules) 0)) l x)) ≡ None
     judged b h =
-        ap (λ t. first_case (cond t (rule_holds d l (drop 5 x)) (post_holds d.entries (not (none_yet d.rules)) l x))) (sym h) ∙ first
+        ap (λ t. first_case (cond t (rule_holds d l (drop 5 x)) (post_holds d.entries (not (eqb (length d.rules) 0)) l x))) (sym h) ∙ first
 
     become : (b : Bool) → is_rule_line x ≡ b → after_line d x ≡ cond b (after_rule d (drop 5 x)) (record { entries = after_post d.entries x; rules = d.rules })
     become b h = ap (λ t. cond t (after_rule d (drop 5 x)) (record { entries = after_post d.entries x; rules = d.rules })) h
@@ -114,8 +114,8 @@ meant d l before (x ∷ xs) s r e = go (is_rule_line x) refl (meant (after_line 
           small = read.small;
         })
     go false b on =
-        let off = (first_case_means Hold (post_holds d.entries (not (none_yet d.rules)) l x)).0 (judged false b) in
-        let line = some_line (post_line x) (not (none_yet d.rules)) off.1.0 in
+        let off = (first_case_means Hold (post_holds d.entries (not (eqb (length d.rules) 0)) l x)).0 (judged false b) in
+        let line = some_line (post_line x) (not (eqb (length d.rules) 0)) off.1.0 in
         let after = become false b in
         let says = subst (λ z. Says z.entries (before ++ x ∷ [])) (sym after) (says_more d.entries before x line.0 s line.1) in
         subst (λ z. Meant z (after_lines (after_line d x) xs)) (append_assoc before (x ∷ []) xs) (on says (ap (λ z. z.rules) after ∙ r) rest)

@@ -1,30 +1,19 @@
 -- The rule line.
-use Rattle.std.proofs.Common.{◌≡◌, ℕ, Bool, true, false, not, ◌||◌, eqb, List, [], ◌∷◌, ◌++◌, map, length, is_some, IsErrAnd, Some, None, Ok, Err, Option, Result, unwrap_or, sym, ap, ◌∙◌, subst}
-use Rattle.std.proofs.lemmas.Result.{err_from_is_err_and}
+use Rattle.std.proofs.Common.{◌≡◌, ℕ, Bool, true, false, not, ◌||◌, eqb, List, [], ◌∷◌, ◌++◌, map, length, is_some, Some, None, Ok, Err, Option, Result, unwrap_or, sym, ap, ◌∙◌}
 use Rattle.temporal.specs.Formula.{Formula}
-use Rattle.holds.specs.Cases.{Hold, Cases, first_case, on_line}
+use Rattle.holds.specs.Cases.{Hold, first_case, on_line}
 use Rattle.words.specs.Lists.{Cut, Holds}
 use Rattle.words.specs.Named.{name_bytes}
 use Rattle.words.specs.Texts.{words_of}
 use Rattle.words.specs.declared.word.Word.{Word}
 use Rattle.words.specs.declared.wordlist.WordList.{WordList}
 use Rattle.roster.specs.Entries.{signal_names}
-use Rattle.roster.specs.Faults.{answered}
 use Rattle.roster.specs.Rosters.{owned, post_name}
-use Rattle.roster.specs.declared.fault.RuleFault.{RuleFault}
-use Rattle.roster.specs.declared.fault.SheetFault.{SheetFault}
-use Rattle.roster.specs.declared.fault.SheetFault.TheVariants.{Rule as OfRule}
 use Rattle.roster.specs.declared.roster.Post.{Post}
 use Rattle.roster.specs.declared.roster.Signal.{Signal}
 use Rattle.roster.proofs.Standing.{labels}
 use Rattle.sheet.proofs.Spares.{counted}
-use Rattle.sheet.specs.Sheets.{Drafted}
-use Rattle.sheet.specs.Texts.{Draft, after_rule, none_yet, rule_formula, rule_holds, words_holds}
-
--- A fault of the rule comes up unchanged.
-pub drafted_break : {A : Type 0} (ts : Cases Hold) (want got : Draft) (r : Result A SheetFault) (f : RuleFault) → IsErrAnd r (λ e. e ≡ OfRule f) → first_case ts ≡ Some (answered (OfRule f)) → Drafted ts want got r
-drafted_break ts want got r f h e =
-    let p = err_from_is_err_and r h in subst (Drafted ts want got) (sym (p.1 ∙ ap Err p.2)) e
+use Rattle.sheet.specs.Texts.{Draft, after_rule, rule_formula, rule_holds, words_holds}
 
 -- The text has a byte that is in no word, or the list has its words.
 pub cut_none : {A E : Type 0} (o : Option (List Word)) (l : WordList) (r : Result A E) → Cut o l r → (e : E) × (r ≡ Err e) → o ≡ None
@@ -50,37 +39,37 @@ module _ (ps : List Post) (ss : List Signal) (fs : List Formula) (l : ℕ) (text
   names : (xs : List Signal) (o : Option (List Word)) → xs ≡ ss → words_of (map (λ s. name_bytes s.name) xs) text ≡ o → words_of (signal_names draft.entries) text ≡ o
   names xs o e h = ap (λ ns. words_of ns text) (labels ss ∙ ap (map (λ s. name_bytes s.name)) (sym e)) ∙ h
 
-  any_posts : (qs : List Post) → qs ≡ ps → none_yet (map post_name ps) ≡ eqb (length qs) 0
+  any_posts : (qs : List Post) → qs ≡ ps → eqb (length (map post_name ps)) 0 ≡ eqb (length qs) 0
   any_posts qs e = sym (counted post_name ps (length qs) (ap length e))
 
   pub foreign_fits : (xs : List Signal) → xs ≡ ss → words_of (map (λ s. name_bytes s.name) xs) text ≡ None → first_case (rule_holds draft l text) ≡ Some (on_line 2 l)
   unfolding judge
-  foreign_fits xs e h = ap (λ o. judge o (none_yet draft.entries.posts || not (none_yet draft.rules))) (names xs None e h)
+  foreign_fits xs e h = ap (λ o. judge o (eqb (length draft.entries.posts) 0 || not (eqb (length draft.rules) 0))) (names xs None e h)
 
   module _ (xs : List Signal) (ws : List Word) (same : xs ≡ ss) (cut : words_of (map (λ s. name_bytes s.name) xs) text ≡ Some ws) where
-    judged : (b : Bool) → (none_yet draft.entries.posts || not (none_yet draft.rules)) ≡ b → first_case (rule_holds draft l text) ≡ judge (Some ws) b
+    judged : (b : Bool) → (eqb (length draft.entries.posts) 0 || not (eqb (length draft.rules) 0)) ≡ b → first_case (rule_holds draft l text) ≡ judge (Some ws) b
     unfolding judge
     judged b h =
-        ap (λ o. judge o (none_yet draft.entries.posts || not (none_yet draft.rules))) (names xs (Some ws) same cut)
+        ap (λ o. judge o (eqb (length draft.entries.posts) 0 || not (eqb (length draft.rules) 0))) (names xs (Some ws) same cut)
         ∙ ap (judge (Some ws)) h
 
     pub first_fits : (qs : List Post) → qs ≡ ps → true ≡ eqb (length qs) 0 → first_case (rule_holds draft l text) ≡ Some (on_line 3 l)
     unfolding judge
     first_fits qs e h =
-        judged true (ap (λ b. b || not (none_yet draft.rules)) (any_posts qs e ∙ sym h))
+        judged true (ap (λ b. b || not (eqb (length draft.rules) 0)) (any_posts qs e ∙ sym h))
 
-    pub second_fits : (qs : List Post) → qs ≡ ps → false ≡ eqb (length qs) 0 → none_yet fs ≡ false → first_case (rule_holds draft l text) ≡ Some (on_line 3 l)
+    pub second_fits : (qs : List Post) → qs ≡ ps → false ≡ eqb (length qs) 0 → eqb (length fs) 0 ≡ false → first_case (rule_holds draft l text) ≡ Some (on_line 3 l)
     unfolding judge
     second_fits qs e h r =
-        judged true (ap (λ b. b || not (none_yet draft.rules)) (any_posts qs e ∙ sym h)
+        judged true (ap (λ b. b || not (eqb (length draft.rules) 0)) (any_posts qs e ∙ sym h)
         ∙ ap not r)
 
     module _ (qs : List Post) (posts : qs ≡ ps) (some : false ≡ eqb (length qs) 0) (unruled : fs ≡ []) where
       pub words_decide : first_case (rule_holds draft l text) ≡ first_case (words_holds (length (map owned ss)) l ws)
       unfolding judge
       words_decide =
-          judged false (ap (λ b. b || not (none_yet draft.rules)) (any_posts qs posts ∙ sym some)
-          ∙ ap (λ z. not (none_yet z)) unruled)
+          judged false (ap (λ b. b || not (eqb (length draft.rules) 0)) (any_posts qs posts ∙ sym some)
+          ∙ ap (λ z. not (eqb (length z) 0)) unruled)
 
       pub rule_joins : (g : Formula) → g ≡ rule_formula ws → ◌≡◌ {A = Draft} (record { entries = draft.entries; rules = g ∷ [] }) (after_rule draft text)
       rule_joins g h =

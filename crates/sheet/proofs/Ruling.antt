@@ -2,7 +2,6 @@
 use Rattle.std.proofs.Common.{◌≡◌, ℕ, ◌≤◌, true, false, cond, ltb, List, length, IsErrAnd, Some, None, Ok, Err, vec_items, Result, sym, ap, ◌∙◌, subst, ⊎_elim, arith}
 use Rattle.std.specs.Result.{MatchResult}
 use Rattle.std.proofs.lemmas.List.{take_all}
-use Rattle.std.proofs.lemmas.Result.{err_from_is_err_and}
 use Rattle.std.proofs.lemmas.Bool.{cases_Bool, le-ltb}
 use Rattle.temporal.specs.Parts.{parts}
 use Rattle.holds.specs.Cases.{first_case, on_line}
@@ -13,6 +12,7 @@ use Rattle.words.specs.declared.word.Word.{Word}
 use Rattle.words.specs.declared.wordlist.WordList.{WordList}
 use Rattle.grammar.specs.Scan.{unknown}
 use Rattle.reader.specs.Answers.{RuleRead}
+use Rattle.reader.proofs.Exits.{exit}
 use Rattle.roster.specs.Faults.{answered}
 use Rattle.roster.specs.declared.fault.WordFault.{WordFault}
 use Rattle.roster.specs.declared.fault.RuleFault.{RuleFault}
@@ -37,9 +37,8 @@ module _ (ws : List Word) (list : WordList) (xs : List Word) (holds : Holds ws l
   -- A fault in the words comes up unchanged.
   pub ruled_break : {A : Type 0} (n l : ℕ) (rule : Rule) (r : Result A RuleFault) (f : WordFault) → IsErrAnd r (λ e. e ≡ Words f) → first_case (place_holds n l xs) ≡ Some (answered (OfRule (Words f))) → Ruled ws n l rule r
   ruled_break n l rule r f h e =
-      let p = err_from_is_err_and r h in
       let moved = ap (λ z. first_case (place_holds n l z)) (sym all) ∙ e in
-      subst (Ruled ws n l rule) (sym (p.1 ∙ ap Err p.2)) (place_fits n l ws short (answered (OfRule (Words f))) moved)
+      exit (Ruled ws n l rule) r (Words f) h (place_fits n l ws short (answered (OfRule (Words f))) moved)
 
   module _ (n l : ℕ) (ps : List Part) (top : ℕ) (read : RuleRead xs ps top) (known : unknown n xs ≡ None) (small : n ≤ 32) where
     read_all : RuleRead ws ps top
@@ -70,5 +69,4 @@ module _ (ws : List Word) (list : WordList) (xs : List Word) (holds : Holds ws l
 
     pub ruled_become : {A : Type 0} (old new : Rule) (r : Result A Misfit) (q : Result A RuleFault) → Became old new n (formula ps top) r → MatchResult r (λ x. q ≡ Ok x) (λ e. IsErrAnd q (λ f. f ≡ Large l)) → Ruled ws n l new q
     ruled_become old new (Ok u) q h m = subst (Ruled ws n l new) (sym m) (ruled_fits h.0, h.1 ∙ ruled_formula, h.2)
-    ruled_become old new (Err e) q h m =
-        let p = err_from_is_err_and q m in subst (Ruled ws n l new) (sym (p.1 ∙ ap Err p.2)) (ruled_large e h.0)
+    ruled_become old new (Err e) q h m = exit (Ruled ws n l new) q (Large l) m (ruled_large e h.0)

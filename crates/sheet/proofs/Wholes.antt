@@ -1,17 +1,12 @@
 -- The sheet as a whole.
-use Rattle.std.proofs.Common.{◌≡◌, ◌≢◌, ℕ, suc, ◌-◌, ◌<◌, ◌≤◌, Bool, true, false, cond, not, ◌||◌, eqb, ltb, List, [], ◌∷◌, ◌++◌, length, get_or, take, IsErrAnd, Some, Err, Option, Result, sym, refl, ap, ◌∙◌, subst, ⊎_elim, drop-cons, arith}
+use Rattle.std.proofs.Common.{◌≡◌, ◌≢◌, ℕ, suc, ◌-◌, ◌<◌, ◌≤◌, Bool, true, false, cond, not, ◌||◌, eqb, ltb, List, [], ◌∷◌, ◌++◌, length, get_or, take, Some, Option, sym, refl, ap, ◌∙◌, ⊎_elim, drop-cons, arith}
 use Rattle.std.proofs.Math.Seq.{get_or-append_seam}
 use Rattle.std.proofs.lemmas.List.{drop_all, length_push, take-append-drop}
-use Rattle.std.proofs.lemmas.Result.{err_from_is_err_and}
 use Rattle.std.proofs.lemmas.Bool.{cases_Bool, eq-eqb, eqb-false, le-ltb, lt-ltb, ne_eqb}
 use Rattle.std.specs.List.{All}
 use Rattle.holds.specs.Cases.{Hold, first_case, plain}
-use Rattle.roster.specs.Faults.{answered}
-use Rattle.roster.specs.declared.fault.SheetFault.{SheetFault}
 use Rattle.rule.specs.declared.rule.Rule.{Rule}
-use Rattle.sheet.specs.Sheets.{Read}
 use Rattle.sheet.specs.Texts.{Draft, after_lines, blank, last_byte, lines, lines_holds, said, sheet_hold}
-use Rattle.sheet.specs.declared.sheet.Sheet.{Sheet}
 
 last_added : (bs : List ℕ) → last_byte (bs ++ 10 ∷ []) ≡ 10
 last_added bs =
@@ -65,10 +60,6 @@ module _ (bs : List ℕ) where
 pub said_is : (bs : List ℕ) (d : Draft) → d ≡ blank → after_lines d (lines bs) ≡ said bs
 unfolding said
 said_is bs d e = ap (λ z. after_lines z (lines bs)) e
-
--- The exit of a `?`.
-pub read_exit : (bs : List ℕ) (r : Result Sheet SheetFault) (f : SheetFault) → IsErrAnd r (λ e. e ≡ f) → sheet_hold bs ≡ Some (answered f) → Read bs r
-read_exit bs r f h e = let p = err_from_is_err_and r h in subst (Read bs) (sym (p.1 ∙ ap Err p.2)) e
 
 pub over_none : (xs : List Rule) (n : ℕ) → length xs ≡ 0 → All (λ r. r.signals ≡ n) xs
 over_none xs n h = λ k d l. absurd (omega arith)

@@ -1,4 +1,3 @@
 pub mod Texts
-pub mod Rules
 pub mod Rulings
 pub mod Sheets

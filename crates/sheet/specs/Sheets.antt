@@ -1,7 +1,7 @@
 -- What a sheet says.
-use Rattle.std.specs.Prelude.{◌≡◌, ℕ, ◌+◌, List, map, length, OnOk, Some, None, Ok, Err, vec_items, vec_len, Result}
+use Rattle.std.specs.Prelude.{◌≡◌, ℕ, ◌+◌, List, map, OnOk, Some, None, Ok, Err, vec_items, vec_len, Result}
 use Rattle.std.specs.List.{All}
-use Rattle.std.specs.Option.{option_to_list}
+use Rattle.std.specs.Option.{option_len}
 use Rattle.holds.specs.Cases.{Hold, Cases, first_case}
 use Rattle.roster.specs.Faults.{answered}
 use Rattle.roster.specs.Rosters.{entries}
@@ -19,8 +19,9 @@ abbrev pub draft_so_far : Reading → Draft
 draft_so_far b = record { entries = entries b.roster; rules = map rule_formula (vec_items b.rules) }
 
 -- The rule is still to come and its memory spare, or it was read and is over all the signals.
+-- It is no ghost field of a reading: on a fault the rule's memory is gone, and a post line promises nothing of the signals.
 pub record Ready (b : Reading) : Type 0 where
-  pub one : length (option_to_list b.spare) + vec_len b.rules ≡ 1
+  pub one : option_len b.spare + vec_len b.rules ≡ 1
   pub over : All (λ r. r.signals ≡ vec_len b.roster.signals) (vec_items b.rules)
 
 -- What judged lines lead to: what is wanted, where no test fits; else the fault of the first that fits.

@@ -1,5 +1,5 @@
 -- A sheet as a text: when it is held back and under what, and what an accepted one says.
-use Rattle.std.specs.Prelude.{◌≡◌, ℕ, suc, ◌+◌, ◌-◌, ◌≤◌, Bool, true, false, cond, not, ◌||◌, List, [], ◌∷◌, ◌++◌, length, drop, is_some, Some, codes, Option, ◌==◌, nat_lt, slice_index_or}
+use Rattle.std.specs.Prelude.{◌≡◌, ℕ, suc, ◌+◌, ◌-◌, ◌≤◌, Bool, cond, not, ◌||◌, List, [], ◌∷◌, ◌++◌, length, drop, is_some, Some, codes, Option, ◌==◌, nat_lt, slice_index_or}
 use Rattle.std.specs.List.{onto_first}
 use Rattle.std.specs.Option.{unwrap_or}
 use Rattle.temporal.specs.Formula.{Formula, never}
@@ -27,10 +27,6 @@ pub record Draft : Type 0 where
 abbrev pub blank : Draft
 blank = record { entries = no_entries; rules = [] }
 
-abbrev pub none_yet : {A : Type 0} → List A → Bool
-none_yet [] = true
-none_yet (x ∷ xs) = false
-
 -- The words of a rule's text, and their formula, shortened. (Where there is none, a hold comes first.)
 abbrev pub rule_words : Entries → List ℕ → List Word
 rule_words e text = unwrap_or (words_of (signal_names e) text) []
@@ -57,7 +53,7 @@ words_holds n l ws =
 abbrev pub rule_holds : Draft → ℕ → List ℕ → Cases Hold
 rule_holds d l text =
     (on_line 2 l, not (is_some (words_of (signal_names d.entries) text)))
-    ∷ (on_line 3 l, none_yet d.entries.posts || not (none_yet d.rules))
+    ∷ (on_line 3 l, length d.entries.posts == 0 || not (length d.rules == 0))
     ∷ words_holds (length d.entries.signals) l (rule_words d.entries text)
 
 abbrev pub after_rule : Draft → List ℕ → Draft
@@ -70,7 +66,7 @@ is_rule_line bs = begins_with (codes "rule ") bs
 
 abbrev pub line_holds : Draft → ℕ → List ℕ → Cases Hold
 line_holds d l bs =
-    cond (is_rule_line bs) (rule_holds d l (drop 5 bs)) (post_holds d.entries (not (none_yet d.rules)) l bs)
+    cond (is_rule_line bs) (rule_holds d l (drop 5 bs)) (post_holds d.entries (not (length d.rules == 0)) l bs)
 
 abbrev pub after_line : Draft → List ℕ → Draft
 after_line d bs =
@@ -78,7 +74,7 @@ after_line d bs =
 
 -- The lines one after the other, from line l on; behind the last the rule line may be missing.
 abbrev pub lines_holds : Draft → ℕ → List (List ℕ) → Cases Hold
-lines_holds d l [] = (on_line 3 l, none_yet d.rules) ∷ []
+lines_holds d l [] = (on_line 3 l, length d.rules == 0) ∷ []
 lines_holds d l (x ∷ xs) = line_holds d l x ++ lines_holds (after_line d x) (suc l) xs
 
 abbrev pub after_lines : Draft → List (List ℕ) → Draft

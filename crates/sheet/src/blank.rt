@@ -1,16 +1,13 @@
 //! A sheet before it is read.
-ghost use Rattle.std.specs.Prelude.{◌≡◌, IfOk, length, vec_len};
-ghost use Rattle.std.specs.Option.{option_to_list};
+ghost use Rattle.std.specs.Prelude.{◌≡◌, IfOk, IsSome, vec_len};
 ghost use Rattle.sheet.specs.Texts.{blank};
 
 use crate::reading::Reading;
+use crate::rule_reader::RuleReader;
 use crate::sheet::Sheet;
-use compact::Workspace;
-use reader::Reader;
 use roster::{Roster, SheetFault};
 use rule::Rule;
 use std::alloc::{AllocError, Global};
-use words::WordList;
 
 /// The most bytes of a sheet.
 pub const MOST_BYTES: usize = 4096;
@@ -22,7 +19,7 @@ pub struct Blank {
     ghost no_posts: { vec_len reading.roster.posts ≡ 0 },
     ghost no_signals: { vec_len reading.roster.signals ≡ 0 },
     ghost no_rule: { vec_len reading.rules ≡ 0 },
-    ghost spare: { length (option_to_list reading.spare) ≡ 1 },
+    ghost spare: { IsSome reading.spare },
 }
 
 impl Blank {
@@ -35,16 +32,12 @@ impl Blank {
         let roster = Roster::new(heap)?;
         let rule = Rule::new(heap)?;
         let rules = Vec::with_capacity(heap, 1)?;
-        let words = WordList::new(heap)?;
-        let reader = Reader::new(heap)?;
-        let space = Workspace::new(heap)?;
+        let rule_reader = RuleReader::new(heap)?;
         let reading = Reading {
             roster,
             spare: Some(rule),
             rules,
-            words,
-            reader,
-            space,
+            rule_reader,
         };
         Ok(Blank { reading })
     }
@@ -56,9 +49,7 @@ impl Blank {
         if text.len() > MOST_BYTES {
             return Err(SheetFault::Whole);
         }
-        let Some(lines) = text.strip_suffix(b"\n") else {
-            return Err(SheetFault::Whole);
-        };
+        let lines = text.strip_suffix(b"\n").ok_or(SheetFault::Whole)?;
         let Blank { mut reading } = self;
         reading.read_lines(lines)?;
         Ok(reading.finish())

@@ -3,6 +3,7 @@
 
 mod blank;
 mod reading;
+mod rule_reader;
 mod sheet;
 
 pub use blank::{Blank, MOST_BYTES};

@@ -1,7 +1,7 @@
 //! A station sheet.
 ghost use Rattle.std.specs.Prelude.{◌≡◌, ◌≤◌, [], ◌∷◌, length, vec_len};
+ghost use Rattle.std.specs.List.{All};
 ghost use Rattle.rule.specs.Ruled.{rule_formula};
-ghost use Rattle.sheet.specs.Rules.{signals_of};
 
 use roster::{Post, Roster, Signal};
 use rule::Rule;
@@ -12,7 +12,7 @@ pub struct Sheet {
     pub(crate) roster: Roster,
     pub(crate) rules: Vec<Rule>,
     ghost one: { vec_len rules ≡ 1 },
-    ghost over: { signals_of rules.items ≡ vec_len roster.signals },
+    ghost over: { All (λ r. r.signals ≡ vec_len roster.signals) rules.items },
 }
 
 impl Sheet {

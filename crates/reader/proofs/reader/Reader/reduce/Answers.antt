@@ -1,62 +1,71 @@
-use Rattle.std.proofs.Common.{◌≡◌, ◌<◌, ◌≤◌, vec_items, ◌∙◌, arith}
+use Rattle.std.proofs.Common.{◌≡◌, ◌<◌, ◌≤◌, List, [], ◌∷◌, ◌++◌, vec_items, ◌∙◌, arith}
 use Rattle.parts.specs.Tables.{parts_of}
 use Rattle.grammar.specs.Grammar.{level}
 use Rattle.parts.proofs.Making.{made_by, interned_grown}
-use Rattle.reader.proofs.Waits.{popped_is, turn_sign, turn_join, turn_on, left_inside, stays_join, stays_open, reduced_here, reach_popped, length_popped}
+use Rattle.reader.specs.Waiting.{Reduced, holding, reducing}
+use Rattle.reader.specs.declared.frame.Frame.{Frame}
+use Rattle.reader.specs.declared.frame.Frame.TheVariants.{Bracket, Before, Between}
+use Rattle.reader.proofs.Waits.{popped_is, turn_sign, turn_join, left_inside, stays_join, stays_open, reduced_here, popped_off}
+use Rattle.reader.proofs.reader.Reader.reduce.Goals.{In-Some}
 use Rattle.reader.proofs.reader.Reader.reduce.Goals as goal
+
+-- The frame was the last that waited.
+popped : (c : In-Some) (f : Frame) → c.in-Some.frame ≡ f → vec_items c.loop-frame.self.frames ≡ vec_items c.pop.new.self ++ (f ∷ [])
+popped c f e = popped_is _ _ _ f c.in-Some.ensures.items e
+
+-- Where it stays, what is left waits for the place.
+stays : (c : In-Some) (hs : List Frame) → vec_items c.loop-frame.self.frames ≡ hs
+    → holding (parts_of c.loop-frame.self.table) (vec_items c.loop-frame.self.frames) c.loop-frame.x ≡ reducing c.args.bound (parts_of c.loop-frame.self.table) (vec_items c.loop-frame.self.frames) c.loop-frame.x
+    → Reduced c.args.bound (parts_of c.args.self.now.table) (vec_items c.args.self.now.frames) c.args.start (parts_of c.loop-frame.self.table) hs c.loop-frame.x
+stays c hs back e =
+    let inv = c.loop-frame.invariant in
+    reduced_here c.args.bound _ _ _ (parts_of c.loop-frame.self.table) _ _ _ back inv.inside inv.small (e ∙ inv.same)
 
 pub loop-frame-preserved-in-Before : goal.loop-frame-preserved-in-Before
 loop-frame-preserved-in-Before c =
-    let popped = popped_is (vec_items c.loop-frame.self.frames) (vec_items c.pop.new.self) _ _ c.in-Some.ensures.items c.in-Before.is in
-    let turn = turn_sign c.args.bound _ _ _ _ _ _ (omega arith) _ popped (made_by _ _ _ _ _ c.unary.ensures c.unwrap-x.ensures) in
-    turn_on c.args.bound _ _ _ _ _ _ _ _ turn c.loop-frame.invariant.1 c.loop-frame.invariant.2
+    let last = popped (goal.at.loop-frame-preserved-in-Before c).In-Some (Before c.in-Before.sign) c.in-Before.is in
+    let turn = turn_sign c.args.bound _ _ _ _ _ _ (omega arith) _ last (made_by _ _ _ _ _ c.unary.ensures c.unwrap-x.ensures) in
+    let made = turn.small in
+    record { inside = turn.inside; small = omega arith; same = turn.left ∙ c.loop-frame.invariant.same }
 
 pub put_connective-x-requires : goal.put_connective-x-requires
 put_connective-x-requires c =
-    let popped = popped_is (vec_items c.loop-frame.self.frames) (vec_items c.pop.new.self) _ _ c.in-Some.ensures.items c.in-Between.is in
-    let left = left_inside (parts_of c.loop-frame.self.table) _ _ _ _ (omega arith) popped in
-    let made = c.loop-frame.invariant.1 in
-    let held = c.loop-frame.invariant.0 in
+    let last = popped (goal.at.put_connective-x-requires c).In-Some (Between c.in-Between.by c.in-Between.left) c.in-Between.is in
+    let left = left_inside (parts_of c.loop-frame.self.table) _ _ _ _ (omega arith) last in
+    let made = c.loop-frame.invariant.small in
+    let held = c.loop-frame.invariant.inside in
     record { room = omega arith; x = omega arith; y = omega arith }
 
 pub loop-frame-preserved : goal.loop-frame-preserved
 loop-frame-preserved c =
-    let popped = popped_is (vec_items c.loop-frame.self.frames) (vec_items c.pop.new.self) _ _ c.in-Some.ensures.items c.in-Between.is in
+    let last = popped (goal.at.loop-frame-preserved c).In-Some (Between c.in-Between.by c.in-Between.left) c.in-Between.is in
     let tight : c.args.bound ≤ level c.in-Between.by = omega arith in
-    let turn = turn_join c.args.bound _ _ _ _ _ _ (omega arith) c.in-Between.by c.in-Between.left tight popped c.put_connective-x.ensures in
-    turn_on c.args.bound _ _ _ _ _ _ _ _ turn c.loop-frame.invariant.1 c.loop-frame.invariant.2
+    let turn = turn_join c.args.bound _ _ _ _ _ _ (omega arith) c.in-Between.by c.in-Between.left tight last c.put_connective-x.ensures in
+    let made = turn.small in
+    record { inside = turn.inside; small = omega arith; same = turn.left ∙ c.loop-frame.invariant.same }
 
 pub returns-then-level-bound : goal.returns-then-level-bound
 returns-then-level-bound c =
-    let ps = parts_of c.loop-frame.self.table in
-    let gs = vec_items c.loop-frame.self.frames in
+    let here = (goal.at.returns-then-level-bound c).In-Some in
     let taken = c.in-Some.ensures.items in
-    let back : gs ≡ vec_items c.push_reserved.new.self = cc in
-    let popped = popped_is gs (vec_items c.pop.new.self) _ _ taken c.in-Between.is in
+    let last = popped here (Between c.in-Between.by c.in-Between.left) c.in-Between.is in
     let loose : level c.in-Between.by < c.args.bound = omega arith in
-    let stays = stays_join c.args.bound ps gs _ c.loop-frame.x c.in-Between.by c.in-Between.left loose popped in
-    reduced_here c.args.bound (parts_of c.args.self.now.table) (vec_items c.args.self.now.frames) c.args.start ps gs _ c.loop-frame.x back c.loop-frame.invariant.0 c.loop-frame.invariant.1 (stays ∙ c.loop-frame.invariant.2)
+    stays here (vec_items c.push_reserved.new.self) (cc) (stays_join c.args.bound (parts_of c.loop-frame.self.table) _ _ c.loop-frame.x c.in-Between.by c.in-Between.left loose last)
 
 pub returns-in-Bracket : goal.returns-in-Bracket
 returns-in-Bracket c =
-    let ps = parts_of c.loop-frame.self.table in
-    let gs = vec_items c.loop-frame.self.frames in
+    let here = (goal.at.returns-in-Bracket c).In-Some in
     let taken = c.in-Some.ensures.items in
-    let back : gs ≡ vec_items c.push_reserved-in-Bracket.new.self = cc in
-    let popped = popped_is gs (vec_items c.pop.new.self) _ _ taken c.in-Bracket.is in
-    let stays = stays_open c.args.bound ps gs _ c.loop-frame.x popped in
-    reduced_here c.args.bound (parts_of c.args.self.now.table) (vec_items c.args.self.now.frames) c.args.start ps gs _ c.loop-frame.x back c.loop-frame.invariant.0 c.loop-frame.invariant.1 (stays ∙ c.loop-frame.invariant.2)
+    stays here (vec_items c.push_reserved-in-Bracket.new.self) (cc) (stays_open c.args.bound (parts_of c.loop-frame.self.table) _ _ c.loop-frame.x (popped here Bracket c.in-Bracket.is))
 
 pub invariant_of-self : goal.invariant_of-self
 invariant_of-self c =
-    let fewer = reach_popped (vec_items c.loop-frame.self.frames) (vec_items c.pop.new.self) _ c.in-Some.ensures.items in
-    let one_less = length_popped (vec_items c.loop-frame.self.frames) (vec_items c.pop.new.self) _ c.in-Some.ensures.items in
+    let left = popped_off (vec_items c.loop-frame.self.frames) (vec_items c.pop.new.self) _ c.in-Some.ensures.items in
     let grown = interned_grown _ _ _ _ c.unary.ensures in
-    record { room = omega arith; waiting_inside = omega arith; held_inside = omega arith; few = omega arith }
+    record { room = omega arith; waiting_inside = omega arith; held_inside = λ x e. let h = c.loop-frame.self.held_inside x e in omega arith; few = omega arith }
 
 pub invariant_of-self-in-Between : goal.invariant_of-self-in-Between
 invariant_of-self-in-Between c =
-    let fewer = reach_popped (vec_items c.loop-frame.self.frames) (vec_items c.pop.new.self) _ c.in-Some.ensures.items in
-    let one_less = length_popped (vec_items c.loop-frame.self.frames) (vec_items c.pop.new.self) _ c.in-Some.ensures.items in
+    let left = popped_off (vec_items c.loop-frame.self.frames) (vec_items c.pop.new.self) _ c.in-Some.ensures.items in
     let grown = c.put_connective-x.ensures.grown in
-    record { room = omega arith; waiting_inside = omega arith; held_inside = omega arith; few = omega arith }
+    record { room = omega arith; waiting_inside = omega arith; held_inside = λ x e. let h = c.loop-frame.self.held_inside x e in omega arith; few = omega arith }

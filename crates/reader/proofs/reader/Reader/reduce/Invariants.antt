@@ -7,9 +7,11 @@ use Rattle.reader.proofs.reader.Reader.reduce.Given as goal
 -- The place is one of the table's, no more was made than frames left, and what is left to reduce is the same.
 abbrev pub invariant-loop-frame : goal.invariant-loop-frame
 invariant-loop-frame l =
-    (l.x < length (parts_of l.self.table))
-    × (load_of l.self ≤ load_of l.initial.self)
-    × (reducing l.bound (parts_of l.self.table) (vec_items l.self.frames) l.x ≡ reducing l.bound (parts_of l.initial.self.table) (vec_items l.initial.self.frames) l.start)
+    record {
+      inside : l.x < length (parts_of l.self.table);
+      small : load_of l.self ≤ load_of l.initial.self;
+      same : reducing l.bound (parts_of l.self.table) (vec_items l.self.frames) l.x ≡ reducing l.bound (parts_of l.initial.self.table) (vec_items l.initial.self.frames) l.start;
+    }
 
 abbrev pub decreases-loop-frame : goal.decreases-loop-frame
 decreases-loop-frame l = vec_len l.self.frames

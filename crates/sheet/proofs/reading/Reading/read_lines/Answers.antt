@@ -1,15 +1,15 @@
 use Rattle.std.proofs.Common.{◌≡◌, ◌<◌, [], ◌∷◌, ◌++◌, drop, length, true, false, add-one, eqb, map, vec_items, vec_len, rules, tests, sym, ap, ◌∙◌, arith}
 use Rattle.std.specs.List.{slice_split}
 use Rattle.std.proofs.lemmas.List.{length_push}
-use Rattle.std.proofs.lemmas.Result.{IfOk-from_err}
 use Rattle.std.proofs.lemmas.Iterator.Splits.{YieldsList-from_slice_split}
 use Rattle.holds.specs.Cases.{first_case}
 use Rattle.rule.specs.Ruled.{rule_formula}
 use Rattle.roster.specs.Rosters.{entries}
 use Rattle.sheet.specs.Sheets.{draft_so_far}
 use Rattle.sheet.specs.Texts.{after_lines, lines_holds}
+use Rattle.sheet.proofs.Exits.{advances_exit}
 use Rattle.sheet.proofs.Spares.{counted}
-use Rattle.sheet.proofs.Lines.{behind, drafted_exit, last_part, line_breaks, line_joins, line_passes, next_part}
+use Rattle.sheet.proofs.Lines.{behind, last_part, line_breaks, line_joins, line_passes, next_part}
 use Rattle.sheet.proofs.reading.Reading.read_lines.Goals.{In-Some, In-None}
 use Rattle.sheet.proofs.reading.Reading.read_lines.Goals as goal
 
@@ -30,29 +30,28 @@ returns-in_err-read_line-clause-draft c =
     let inv = c.loop-line.invariant in
     let d = draft_so_far c.args.self.now in
     let ls = slice_split (λ b. eqb b 10) c.args.text.now in
-    let part = (next (goal.at.returns-in_err-read_line-clause-draft c).In-Some).1 in (
-      drafted_exit (lines_holds d 1 ls) (after_lines d ls) (draft_so_far c.read_line.new.self) _ _ c.from_residual.ensures.1 (sym inv.2 ∙ line_breaks (draft_so_far c.loop-line.self) c.loop-line.number _ _ _ part _ c.in_err-read_line.ensures.0),
-      IfOk-from_err _ _ c.from_residual.ensures.0,
-    )
+    let part = (next (goal.at.returns-in_err-read_line-clause-draft c).In-Some).1 in
+    advances_exit (lines_holds d 1 ls) (after_lines d ls) c.read_line.new.self _ _ c.from_residual.ensures.1 (sym inv.holds ∙ line_breaks (draft_so_far c.loop-line.self) c.loop-line.number _ _ _ part _ c.in_err-read_line.ensures.0)
 
 pub loop-line-preserved : goal.loop-line-preserved
 loop-line-preserved c =
     let inv = c.loop-line.invariant in
     let d = draft_so_far c.loop-line.self in
     let part = (next (goal.at.loop-line-preserved c).In-Some).1 in
-    let went = c.in_ok-read_line.ensures in (
-      omega (arith, length_push c.loop-line.yielded c.in-Some.line),
-      went.1,
-      line_passes d c.loop-line.number _ _ _ part _ _ went.0.0 went.0.1 (add-one c.loop-line.number) ∙ inv.2,
-      line_joins d c.loop-line.number _ _ _ part _ went.0.1 ∙ inv.3,
-    )
+    let went = c.in_ok-read_line.ensures in
+    record {
+      number = omega (arith, length_push c.loop-line.yielded c.in-Some.line);
+      ready = went.1;
+      holds = line_passes d c.loop-line.number _ _ _ part _ _ went.0.0 went.0.1 (add-one c.loop-line.number) ∙ inv.holds;
+      draft = line_joins d c.loop-line.number _ _ _ part _ went.0.1 ∙ inv.draft;
+    }
 
 pub returns-then-is_empty-clause-draft : goal.returns-then-is_empty-clause-draft
 returns-then-is_empty-clause-draft c =
     let b = c.loop-line.self in
     let end = ap (λ z. first_case (lines_holds (draft_so_far b) c.loop-line.number z)) (last (goal.at.returns-then-is_empty-clause-draft c).In-None) in
     let counts = counted rule_formula (vec_items b.rules) (vec_len b.rules) b.rules.ok.0 in
-    let missing = sym c.loop-line.invariant.2 ∙ end ∙ behind (entries b.roster) (map rule_formula (vec_items b.rules)) c.loop-line.number true (cc (counts)) in
+    let missing = sym c.loop-line.invariant.holds ∙ end ∙ behind (entries b.roster) (map rule_formula (vec_items b.rules)) c.loop-line.number true (cc (counts)) in
     (cc (missing), tt)
 
 pub returns-clause-draft : goal.returns-clause-draft
@@ -63,8 +62,8 @@ returns-clause-draft c =
     let end = ap (λ z. first_case (lines_holds (draft_so_far b) c.loop-line.number z)) none in
     let counts = counted rule_formula (vec_items b.rules) (vec_len b.rules) b.rules.ok.0 in (
       (
-        sym inv.2 ∙ end ∙ behind (entries b.roster) (map rule_formula (vec_items b.rules)) c.loop-line.number false (cc (counts)),
-        sym (ap (after_lines (draft_so_far b)) none) ∙ inv.3,
+        sym inv.holds ∙ end ∙ behind (entries b.roster) (map rule_formula (vec_items b.rules)) c.loop-line.number false (cc (counts)),
+        sym (ap (after_lines (draft_so_far b)) none) ∙ inv.draft,
       ),
-      inv.1,
+      inv.ready,
     )

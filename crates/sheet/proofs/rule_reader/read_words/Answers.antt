@@ -4,7 +4,7 @@ use Rattle.parts.specs.Tables.{parts_of}
 use Rattle.grammar.specs.Scan.{unknown}
 use Rattle.reader.specs.Answers.{RuleRead}
 use Rattle.sheet.proofs.Wording.{fault_within, unknown_fits}
-use Rattle.sheet.proofs.reading.read_words.Goals as goal
+use Rattle.sheet.proofs.rule_reader.read_words.Goals as goal
 
 pub map_err-requires : goal.map_err-requires
 map_err-requires c =
