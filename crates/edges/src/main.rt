@@ -5,8 +5,9 @@ mod flight;
 mod shared;
 
 use anyhow::anyhow;
-use flight::{Unfit, monitor_of, repeat};
+use flight::repeat;
 use monitor::Monitor;
+use postfix::{Unfit, monitor_of};
 use std::alloc::{AllocError, Global};
 
 /// Prints what became of one reading, given so many times.
