@@ -15,7 +15,6 @@ use monitor::Monitor;
 use parts::{Binary, Junction, Table, Unary};
 use rule::Rule;
 use std::alloc::{AllocError, Global};
-
 pub use unfit::Unfit;
 
 /// A sign over the last part that the stack has.
