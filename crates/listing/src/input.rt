@@ -10,6 +10,7 @@ pub(crate) fn split_input(input: &[u8]) -> (&[u8], &[u8])
     ensures sheet { result.0.now ≡ sheet_part input.now }
     ensures ticks { result.1.now ≡ ticks_part input.now }
 {
+    // An input that begins with a line end begins with an empty line, so a line end goes before its first byte.
     let before = once(b'\n').chain(input.iter().copied());
     let empty = before
         .zip(input)

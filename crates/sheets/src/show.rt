@@ -4,25 +4,34 @@ use roster::{Post, Signal};
 use rule::Rule;
 use sheet::Sheet;
 
-/// Prints the posts' names.
-fn print_posts(rt: &HostRuntime, posts: &[Post]) -> anyhow::Result<()> {
-    for (i, post) in posts.iter().enumerate() {
+/// Prints items, each as `print` does, with a space before the first and a comma before each other.
+fn print_items<T, F: Fn(&T) -> anyhow::Result<()>>(
+    rt: &HostRuntime,
+    items: &[T],
+    print: F,
+) -> anyhow::Result<()>
+    requires { F.IsAlwaysCallable print }
+{
+    for (i, item) in items.iter().enumerate() {
         let before = if i == 0 { " " } else { "," };
-        let name = post.name.as_bytes().escape_ascii();
-        print!(rt; "{before}{name}")?;
+        print!(rt; "{before}")?;
+        print(item)?;
     }
     Ok(())
 }
 
-/// Prints the signals' names, each with the number of its owner.
-// A loop of its own: one for posts and signals would ask at each name which of the two it prints.
-fn print_signals(rt: &HostRuntime, signals: &[Signal]) -> anyhow::Result<()> {
-    for (i, signal) in signals.iter().enumerate() {
-        let before = if i == 0 { " " } else { "," };
-        let name = signal.name.as_bytes().escape_ascii();
-        let owner = signal.owner;
-        print!(rt; "{before}{name}:{owner}")?;
-    }
+/// Prints a post's name.
+fn print_post(rt: &HostRuntime, post: &Post) -> anyhow::Result<()> {
+    let name = post.name.as_bytes().escape_ascii();
+    print!(rt; "{name}")?;
+    Ok(())
+}
+
+/// Prints a signal's name with the number of its owner.
+fn print_signal(rt: &HostRuntime, signal: &Signal) -> anyhow::Result<()> {
+    let name = signal.name.as_bytes().escape_ascii();
+    let owner = signal.owner;
+    print!(rt; "{name}:{owner}")?;
     Ok(())
 }
 
@@ -49,9 +58,9 @@ fn print_rule(rt: &HostRuntime, rule: &Rule) -> anyhow::Result<()> {
 /// Prints a sheet.
 pub(crate) fn print_sheet(rt: &HostRuntime, sheet: &Sheet) -> anyhow::Result<()> {
     print!(rt; "posts")?;
-    print_posts(rt, sheet.posts())?;
+    print_items(rt, sheet.posts(), |post| print_post(rt, post))?;
     print!(rt; " signals")?;
-    print_signals(rt, sheet.signals())?;
+    print_items(rt, sheet.signals(), |signal| print_signal(rt, signal))?;
     print!(rt; " rule")?;
     print_rule(rt, sheet.rule())?;
     println!(rt; "")?;
