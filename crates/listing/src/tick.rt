@@ -34,10 +34,9 @@ fn is_group(group: &[u8], digits: usize) -> bool
 pub(crate) fn do_groups_fit(line: &[u8], signals: &[Signal]) -> bool
     ensures { result ≡ each_fits (map owned signals.now) 1 (groups line.now) }
 {
-    // No `(1..).zip(..)`: `1..` ends at the last number, so a proof would have to bound the groups.
-    line.split(|b| *b == b' ').enumerate().all(|(at, group)| is_group(
+    (1..).zip(line.split(|b| *b == b' ')).all(|(post, group)| is_group(
         group,
-        count_owned(signals, at + 1),
+        count_owned(signals, post),
     ))
 }
 
