@@ -12,7 +12,7 @@ use std::alloc::{AllocError, Global};
 
 /// Prints what became of one reading, given so many times.
 fn print_steps(
-    rt: &HostRuntime,
+    rt: &impl Print,
     monitor: &mut Monitor,
     reading: u32,
     times: u32,
@@ -31,7 +31,7 @@ fn print_steps(
 }
 
 /// Prints the steps of one line.
-fn print_flight(rt: &HostRuntime, monitor: &mut Monitor, words: &[u32]) -> anyhow::Result<()> {
+fn print_flight(rt: &impl Print, monitor: &mut Monitor, words: &[u32]) -> anyhow::Result<()> {
     for [reading, times] in words.as_chunks::<2>().0 {
         print_steps(rt, monitor, *reading, *times)?;
     }

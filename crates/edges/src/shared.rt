@@ -55,7 +55,7 @@ fn formula_at(
 
 /// Prints what a step or a closing left.
 fn print_formula(
-    rt: &HostRuntime,
+    rt: &impl Print,
     what: &str,
     formula: &Compact,
     done: Result<(), TooMany>,
@@ -81,7 +81,7 @@ fn print_chain(rt: &HostRuntime, signals: &[Option<bool>], what: &str) -> anyhow
 
 /// Closes what q was at a tick, as on.
 fn print_closed(
-    rt: &HostRuntime,
+    rt: &impl Print,
     formula: &mut Compact,
     tick: u32,
     what: &str,

@@ -6,7 +6,7 @@ use sheet::Sheet;
 
 /// Prints items, each as `print` does, with a space before the first and a comma before each other.
 fn print_items<T, F: Fn(&T) -> anyhow::Result<()>>(
-    rt: &HostRuntime,
+    rt: &impl Print,
     items: &[T],
     print: F,
 ) -> anyhow::Result<()>
@@ -21,14 +21,14 @@ fn print_items<T, F: Fn(&T) -> anyhow::Result<()>>(
 }
 
 /// Prints a post's name.
-fn print_post(rt: &HostRuntime, post: &Post) -> anyhow::Result<()> {
+fn print_post(rt: &impl Print, post: &Post) -> anyhow::Result<()> {
     let name = post.name.as_bytes().escape_ascii();
     print!(rt; "{name}")?;
     Ok(())
 }
 
 /// Prints a signal's name with the number of its owner.
-fn print_signal(rt: &HostRuntime, signal: &Signal) -> anyhow::Result<()> {
+fn print_signal(rt: &impl Print, signal: &Signal) -> anyhow::Result<()> {
     let name = signal.name.as_bytes().escape_ascii();
     let owner = signal.owner;
     print!(rt; "{name}:{owner}")?;
@@ -36,7 +36,7 @@ fn print_signal(rt: &HostRuntime, signal: &Signal) -> anyhow::Result<()> {
 }
 
 /// Prints a part, its operands by their numbers.
-fn print_part(rt: &HostRuntime, part: Part) -> anyhow::Result<()> {
+fn print_part(rt: &impl Print, part: Part) -> anyhow::Result<()> {
     match part {
         Part::Const(value) => print!(rt; " {value}")?,
         Part::Signal(p) => print!(rt; " p{p}")?,
@@ -48,7 +48,7 @@ fn print_part(rt: &HostRuntime, part: Part) -> anyhow::Result<()> {
 }
 
 /// Prints the parts of a rule in the walk's order.
-fn print_rule(rt: &HostRuntime, rule: &Rule) -> anyhow::Result<()> {
+fn print_rule(rt: &impl Print, rule: &Rule) -> anyhow::Result<()> {
     for part in rule.formula().parts() {
         print_part(rt, *part)?;
     }
@@ -56,7 +56,7 @@ fn print_rule(rt: &HostRuntime, rule: &Rule) -> anyhow::Result<()> {
 }
 
 /// Prints a sheet.
-pub(crate) fn print_sheet(rt: &HostRuntime, sheet: &Sheet) -> anyhow::Result<()> {
+pub(crate) fn print_sheet(rt: &impl Print, sheet: &Sheet) -> anyhow::Result<()> {
     print!(rt; "posts")?;
     print_items(rt, sheet.posts(), |post| print_post(rt, post))?;
     print!(rt; " signals")?;
