@@ -5,18 +5,20 @@ mod flight;
 mod shared;
 
 use anyhow::anyhow;
-use flight::{Unfit, monitor_of, repeat};
+use flight::repeat;
 use monitor::Monitor;
+use postfix::{Unfit, monitor_of};
 use std::alloc::{AllocError, Global};
 
 /// Prints what became of one reading, given so many times.
 fn print_steps(
-    rt: &HostRuntime,
+    rt: &impl Print,
     monitor: &mut Monitor,
     reading: u32,
     times: u32,
 ) -> anyhow::Result<()> {
     let (accepted, hold) = repeat(monitor, reading, times);
+    // The listing prints 0 where there is no hold.
     let held = hold.map_or(0, |hold| hold.number());
     let next = monitor.next_tick();
     let count = monitor.obligation().count();
@@ -29,22 +31,18 @@ fn print_steps(
 }
 
 /// Prints the steps of one line.
-fn print_flight(rt: &HostRuntime, monitor: &mut Monitor, words: &[u32]) -> anyhow::Result<()> {
-    for pair in words.chunks_exact(2) {
-        print_steps(rt, monitor, pair[0], pair[1])?;
+fn print_flight(rt: &impl Print, monitor: &mut Monitor, words: &[u32]) -> anyhow::Result<()> {
+    for [reading, times] in words.as_chunks::<2>().0 {
+        print_steps(rt, monitor, *reading, *times)?;
     }
     Ok(())
 }
 
-/// The numbers of a line, behind its first word.
-fn numbers_of(heap: Global, line: &str) -> Result<Vec<u32>, AllocError> {
-    let mut numbers = Vec::new(heap);
-    for word in line.split(' ') {
-        if let Ok(n) = word.parse::<u32>() {
-            numbers.push(n)?;
-        }
-    }
-    Ok(numbers)
+/// The numbers among the words of a text.
+fn numbers_of(heap: Global, text: &str) -> Result<Vec<u32>, AllocError> {
+    text.split(' ')
+        .filter_map(|word| word.parse::<u32>().ok())
+        .collect(heap)
 }
 
 /// Prints what a formula comes to over so many signals, and the steps of its monitor.
@@ -64,10 +62,12 @@ fn print_rule(rt: &HostRuntime, text: &str, signals: u8, words: &[u32]) -> anyho
 
 /// Prints one line: a formula, how many signals, and pairs of a reading and how often it is given.
 fn print_line(rt: &HostRuntime, line: &str) -> anyhow::Result<()> {
-    let numbers = numbers_of(rt.alloc(), line)?;
-    let text = line.split(' ').next().unwrap_or("");
+    let (text, behind) = line.split_once(' ').unwrap_or((line, ""));
+    let numbers = numbers_of(rt.alloc(), behind)?;
     match numbers.as_slice() {
-        [signals, words @ ..] => print_rule(rt, text, (*signals).min(255) as u8, words),
+        [signals, words @ ..] => {
+            print_rule(rt, text, u8::try_from(*signals).unwrap_or(u8::MAX), words)
+        }
         [] => Err(anyhow!("no number of signals")),
     }
 }

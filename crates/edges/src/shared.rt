@@ -1,38 +1,37 @@
 //! A full table, a formula whose tree is as large as 2 to the power 256, and the closing of open readings.
+ghost use Rattle.std.specs.Prelude.{◌<◌, length, IfSome};
+ghost use Rattle.parts.specs.Tables.{parts_of};
+
+use anyhow::anyhow;
 use compact::{Compact, TooMany, Workspace};
 use monitor::Verdict;
 use parts::{Binary, Table, Unary};
 use progression::Row;
-use std::alloc::{AllocError, Global};
+use std::alloc::Global;
 
-/// X over a part of the table.
-fn next(table: &mut Table, x: u16) -> Option<u16> {
-    if usize::from(x) < table.used() {
-        table.unary(Unary::Next, x)
-    } else {
-        None
-    }
+/// A signal, X of it and X X of it; `None` where the table has no room for one of them.
+fn nexts(table: &mut Table, p: u8) -> Option<u16> {
+    let s = table.signal(p)?;
+    let x = table.unary(Unary::Next, s)?;
+    table.unary(Unary::Next, x)
 }
 
 /// Fills a table with signals, X of them and X X of them; answers how many parts it then has.
 fn fill(table: &mut Table) -> usize {
     for p in 0..=255u8 {
-        if let Some(s) = table.signal(p) {
-            if let Some(x) = next(table, s) {
-                let _ = next(table, x);
-            }
+        if nexts(table, p).is_none() {
+            break;
         }
     }
     table.used()
 }
 
 /// A chain of U parts whose two operands are the part before; answers the last.
-fn chain(table: &mut Table, length: u16) -> Option<u16> {
+fn chain(table: &mut Table, count: u16) -> Option<u16>
+    ensures { IfSome result (λ at. at < length (parts_of table.new)) }
+{
     let mut top = table.signal(0)?;
-    for _ in 0..length {
-        if usize::from(top) >= table.used() {
-            return None;
-        }
+    for _ in 0..count {
         top = table.binary(Binary::Until, top, top)?;
     }
     Some(top)
@@ -42,21 +41,21 @@ fn chain(table: &mut Table, length: u16) -> Option<u16> {
 fn formula_at(
     heap: Global,
     table: &Table,
-    at: Option<u16>,
+    at: u16,
     space: &mut Workspace,
-) -> Result<Compact, AllocError> {
+) -> anyhow::Result<Compact>
+    requires { at < length (parts_of table.now) }
+{
     let mut formula = Compact::new(heap)?;
-    if let Some(top) = at {
-        if usize::from(top) < table.used() {
-            let _ = formula.become_part(table, top, space);
-        }
-    }
+    formula
+        .become_part(table, at, space)
+        .map_err(|_| anyhow!("over 256 parts"))?;
     Ok(formula)
 }
 
 /// Prints what a step or a closing left.
 fn print_formula(
-    rt: &HostRuntime,
+    rt: &impl Print,
     what: &str,
     formula: &Compact,
     done: Result<(), TooMany>,
@@ -74,7 +73,7 @@ fn print_chain(rt: &HostRuntime, signals: &[Option<bool>], what: &str) -> anyhow
     let heap = rt.alloc();
     let mut table = Table::new(heap)?;
     let mut space = Workspace::new(heap)?;
-    let top = chain(&mut table, 255);
+    let top = chain(&mut table, 255).ok_or_else(|| anyhow!("no room"))?;
     let mut formula = formula_at(heap, &table, top, &mut space)?;
     let done = formula.step(&Row { tick: 0, signals }, &mut space);
     print_formula(rt, what, &formula, done, &mut space)
@@ -82,7 +81,7 @@ fn print_chain(rt: &HostRuntime, signals: &[Option<bool>], what: &str) -> anyhow
 
 /// Closes what q was at a tick, as on.
 fn print_closed(
-    rt: &HostRuntime,
+    rt: &impl Print,
     formula: &mut Compact,
     tick: u32,
     what: &str,
@@ -103,7 +102,7 @@ fn print_gate(rt: &HostRuntime) -> anyhow::Result<()> {
     let heap = rt.alloc();
     let mut table = Table::new(heap)?;
     let mut space = Workspace::new(heap)?;
-    let top = postfix::make(heap, &mut table, "q!p|G")?;
+    let top = postfix::make(heap, &mut table, "q!p|G")?.ok_or_else(|| anyhow!("no formula"))?;
     let mut formula = formula_at(heap, &table, top, &mut space)?;
     let done = formula.step(
         &Row {

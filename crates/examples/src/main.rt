@@ -4,28 +4,10 @@
 mod sample;
 mod show;
 
-use anyhow::anyhow;
-use compact::Workspace;
 use monitor::{Monitor, Verdict};
-use parts::Table;
-use rule::Rule;
+use postfix::monitor_of;
 use sample::Sample;
 use show::text_of;
-
-/// A monitor of an example's rule.
-fn monitor_of(rt: &HostRuntime, sample: Sample) -> anyhow::Result<Monitor> {
-    let heap = rt.alloc();
-    let mut table = Table::new(heap)?;
-    let mut space = Workspace::new(heap)?;
-    let mut rule = Rule::new(heap)?;
-    let Some(top) = postfix::make(heap, &mut table, sample.postfix)? else {
-        return Err(anyhow!("no formula"));
-    };
-    if let Err(_) = rule.become_part(&table, top, sample.signals, &mut space) {
-        return Err(anyhow!("no rule"));
-    }
-    Ok(Monitor::new(heap, &rule)?)
-}
 
 /// The verdict in words.
 fn word(verdict: Verdict) -> &'static str {
@@ -75,7 +57,7 @@ fn print_step(
 
 /// Prints one example from its start.
 fn print_run(rt: &HostRuntime, sample: Sample, readings: &[u32]) -> anyhow::Result<()> {
-    let mut monitor = monitor_of(rt, sample)?;
+    let mut monitor = monitor_of(rt.alloc(), sample.postfix, sample.signals)?;
     let rule = sample.text;
     let start = text_of(rt.alloc(), monitor.obligation())?;
     println!(rt; "rule {rule} is read as {start}")?;

@@ -1,7 +1,7 @@
 //! The rules of the worked examples.
 
 /// A rule as a sheet has it, with its operands before their signs, and over how many signals it is.
-#[derive(Clone, Copy)]
+#[derive(Clone, Copy, PartialEq, Eq, Debug)]
 pub(crate) struct Sample {
     pub(crate) text: &'static str,
     pub(crate) postfix: &'static str,

@@ -15,16 +15,24 @@ fn name(signal: u8) -> &'static str {
     }
 }
 
-/// How tightly a part binds: or, and, U, the prefixes, and what needs no brackets.
-fn tightness(part: Part) -> u8
-    ensures { result < 6 }
-{
+/// How tightly a part binds, the loosest first.
+#[derive(Clone, Copy, PartialEq, Eq, PartialOrd, Ord, Debug)]
+enum Tightness {
+    Or,
+    And,
+    Until,
+    Prefix,
+    Leaf,
+}
+
+/// How tightly a part binds.
+fn tightness_of(part: Part) -> Tightness {
     match part {
-        Part::Two(Binary::Join(Junction::Or), _, _) => 1,
-        Part::Two(Binary::Join(Junction::And), _, _) => 2,
-        Part::Two(Binary::Until, _, _) => 3,
-        Part::One(_, _) => 4,
-        _ => 5,
+        Part::Two(Binary::Join(Junction::Or), _, _) => Tightness::Or,
+        Part::Two(Binary::Join(Junction::And), _, _) => Tightness::And,
+        Part::Two(Binary::Until, _, _) => Tightness::Until,
+        Part::One(_, _) => Tightness::Prefix,
+        Part::Const(_) | Part::Signal(_) | Part::Open(_, _) => Tightness::Leaf,
     }
 }
 
@@ -35,8 +43,7 @@ fn write_bare(formula: &Compact, at: u16, out: &mut String) -> Result<(), AllocE
 {
     let part = formula.part(at);
     match part {
-        Part::Const(true) => out.push_str("true"),
-        Part::Const(false) => out.push_str("false"),
+        Part::Const(value) => write!(out, "{value}"),
         Part::Signal(p) => out.push_str(name(p)),
         Part::Open(p, tick) => {
             let name = name(p);
@@ -47,23 +54,31 @@ fn write_bare(formula: &Compact, at: u16, out: &mut String) -> Result<(), AllocE
             if sign != Unary::Not {
                 out.push_str(" ")?;
             }
-            write_part(formula, a, 4, out)
+            let is_loose = tightness_of(formula.part(a)) < Tightness::Prefix;
+            write_part(formula, a, is_loose, out)
         }
         Part::Two(sign, a, b) => {
-            let own = tightness(part);
-            write_part(formula, a, own + 1, out)?;
+            let own = tightness_of(part);
+            let is_first_loose = tightness_of(formula.part(a)) <= own;
+            let is_second_loose = tightness_of(formula.part(b)) < own;
+            write_part(formula, a, is_first_loose, out)?;
             write!(out, " {sign} ")?;
-            write_part(formula, b, own, out)
+            write_part(formula, b, is_second_loose, out)
         }
     }
 }
 
-/// Writes a part, in brackets if it binds looser than it must.
+/// Writes a part, in brackets if it binds too loosely for where it stands.
 #[cycle(writing)]
-fn write_part(formula: &Compact, at: u16, least: u8, out: &mut String) -> Result<(), AllocError>
+fn write_part(
+    formula: &Compact,
+    at: u16,
+    is_loose: bool,
+    out: &mut String,
+) -> Result<(), AllocError>
     requires { at < length (compact_parts formula.now) }
 {
-    if tightness(formula.part(at)) >= least {
+    if !is_loose {
         return write_bare(formula, at, out);
     }
     out.push_str("(")?;

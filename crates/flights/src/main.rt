@@ -21,6 +21,7 @@ fn print_first<'a>(rt: &HostRuntime, inputs: &'a [u8]) -> anyhow::Result<&'a [u8
     requires { 0 < length inputs.now }
     ensures { IfOk result (λ rest. length rest.now < length inputs.now) }
 {
+    // No `split` or `lines`: whatever byte stands behind the mark is skipped, and bytes need not be text.
     match inputs.iter().position(|b| *b == b'=') {
         Some(at) => {
             print_listing(rt, &inputs[..at])?;

@@ -1,8 +1,14 @@
 -- The groups of a line, and their digits.
-use Rattle.std.proofs.Common.{◌≡◌, ℕ, ◌+◌, ◌<◌, ◌≤◌, Bool, true, false, cond, not, ◌&&◌, eqb, leb, ◌⊎◌, List, [], ◌∷◌, map, length, sym, refl, ap, ◌∙◌, inl, inr, arith}
-use Rattle.std.specs.List.{concat, count_by, enumerate_from, filter, list_all, onto_first}
+use Rattle.std.proofs.Common.{◌≡◌, ℕ, suc, ◌+◌, ◌-◌, Option, None, ◌<◌, ◌≤◌, Bool, true, false, cond, not, eqb, leb, ◌⊎◌, List, [], ◌∷◌, map, length, sym, refl, ap, ◌∙◌, inl, inr, arith}
+use Rattle.std.specs.List.{concat, count_by, enumerate_from, filter, onto_first}
 use Rattle.std.proofs.lemmas.List.{length-append, length-map}
 use Rattle.std.proofs.lemmas.List.Sums.{count_by-le-length, sum_by-cons}
+use Rattle.std.specs.Iterator.{AlwaysYields}
+use Rattle.std.specs.Iterator.Adapters.{zip_first, zip_second}
+use Rattle.std.specs.Option.{MatchOption}
+use Rattle.std.specs.declared.iter.Zip.{Zip}
+use Rattle.std.specs.declared.ops.RangeFrom.{RangeFrom}
+use Rattle.std.proofs.lemmas.Iterator.{YieldsList, zips}
 use Rattle.std.proofs.lemmas.Bool.{and_parts, eq-eqb, eqb-true, lt-leb, le-leb, ne_eqb, cases_order}
 use Rattle.roster.specs.Entries.{Owned}
 use Rattle.listing.specs.Ticks.{bits, each_fits, groups, is_group, is_no_space, owned_by}
@@ -23,10 +29,37 @@ concat_groups (c ∷ cs) = go (eqb c 32) (concat_groups cs)
 pub bits_kept : (line : List ℕ) → bits line ≡ map (λ b. eqb b 49) (filter is_no_space line)
 bits_kept line = ap (map (λ b. eqb b 49)) (concat_groups line)
 
--- The numbers of the groups may begin one later.
-pub fits_later : (ss : List Owned) (k : ℕ) (gs : List (List ℕ)) → list_all (λ p. is_group (owned_by (p.0 + 1) ss) p.1) (enumerate_from k gs) ≡ each_fits ss (k + 1) gs
-fits_later ss k [] = refl
-fits_later ss k (g ∷ gs) = ap (λ t. is_group (owned_by (k + 1) ss) g && t) (fits_later ss (k + 1) gs)
+-- A line has at most one group more than bytes.
+onto_length : (c n : ℕ) (ps : List (List ℕ)) → length ps ≤ n → 1 ≤ n → length (onto_first c ps) ≤ n
+onto_length c n [] l m = m
+onto_length c n (p ∷ ps) l m = l
+
+pub groups_few : (line : List ℕ) → length (groups line) ≤ length line + 1
+groups_few [] = omega arith
+groups_few (c ∷ cs) = go (eqb c 32) (groups_few cs)
+  where
+    go : (t : Bool) → length (groups cs) ≤ length cs + 1 → length (cond t ([] ∷ groups cs) (onto_first c (groups cs))) ≤ suc (length cs) + 1
+    go true h = omega arith
+    go false h = onto_length c (suc (length cs) + 1) (groups cs) (omega arith) (omega arith)
+
+-- Items beside the numbers from k on, which end at the last.
+abbrev pub range_steps : RangeFrom ℕ → Option ℕ → RangeFrom ℕ → Type 0
+range_steps s r t = MatchOption r ((18446744073709551615 - s.start ≡ 0) × (t ≡ s)) (λ x. (x ≡ s.start) × (t.start ≡ x + 1))
+
+module _ {T A B : Type 0} (others : T → Option A → T → Type 0) (v : A → B) where
+  goes_on : (s : Zip (RangeFrom ℕ) T) → (zip_first s).start < 18446744073709551615 → ((j : T) → others (zip_second s) None j → ⊥) → ((u : RangeFrom ℕ) × range_steps (zip_first s) None u) ⊎ ((u : T) × others (zip_second s) None u) → ⊥
+  goes_on s l f (inl p) = omega (arith, p.1.0)
+  goes_on s l f (inr q) = f q.0 q.1
+
+  beside_numbers : (ys : List B) (k : ℕ) (s : Zip (RangeFrom ℕ) T) → (zip_first s).start ≡ k → k + length ys < 18446744073709551616 → AlwaysYields others v (zip_second s) ys → AlwaysYields (zips range_steps others) {B = ℕ × B} (λ p. (p.0, v p.1)) s (enumerate_from k ys)
+  beside_numbers [] k s e l a = λ p j h. a p.1 (zip_second j) h.1
+  beside_numbers (y ∷ ys) k s e l a = (
+    (λ j h. goes_on s (omega arith) a.0 h),
+    λ p j h. let m = a.1 p.1 (zip_second j) h.1 in ((λ i. ((h.0.0 ∙ e) i, m.0 i)), beside_numbers ys (k + 1) j (h.0.1 ∙ ap (λ n. n + 1) (h.0.0 ∙ e)) (omega arith) m.1),
+  )
+
+  pub numbered : {ys : List B} (k : ℕ) {s : Zip (RangeFrom ℕ) T} → (zip_first s).start ≡ k → k + length ys < 18446744073709551616 → YieldsList others v (zip_second s) ys → YieldsList {B = ℕ × B} (zips range_steps others) (λ p. (p.0, v p.1)) s (enumerate_from k ys)
+  numbered {ys} k {s} e l a = record { runs = beside_numbers ys k s e l a.runs }
 
 -- The signals of the posts from k on.
 owned_from : ℕ → List Owned → ℕ

@@ -1,6 +1,10 @@
 -- An input that is split at its first empty line, and a text that is split at its first line end.
-use Rattle.std.proofs.Common.{◌≡◌, ℕ, suc, ◌+◌, ◌<◌, ◌≤◌, Bool, true, false, cond, not, ◌&&◌, eqb, ltb, List, [], ◌∷◌, length, take, drop, Some, None, Option, sym, refl, ap, ◌∙◌, one-add, arith}
-use Rattle.std.specs.List.{position, position_or_len, zip}
+use Rattle.std.proofs.Common.{◌≡◌, ℕ, suc, ◌+◌, ◌<◌, ◌≤◌, Bool, true, false, cond, not, ◌&&◌, eqb, ltb, List, [], ◌∷◌, length, get_or, take, drop, Some, None, Option, sym, refl, ap, ◌∙◌, one-add, arith}
+use Rattle.std.specs.Iterator.{AlwaysYields}
+use Rattle.std.specs.List.{position, position_or_len}
+use Rattle.std.specs.Slice.Iter.{windows_rest, windows_size, windows_steps}
+use Rattle.std.specs.declared.slice.Windows.{Windows}
+use Rattle.std.proofs.lemmas.Iterator.{YieldsList}
 use Rattle.std.proofs.lemmas.List.{drop_all, take_all}
 use Rattle.std.proofs.lemmas.Bool.{ltb-true, ltb-false}
 use Rattle.sheet.specs.Texts.{lines}
@@ -21,15 +25,35 @@ place_none p xs = go (ltb (position_or_len p xs) (length xs)) refl
     go true e h = let z : ◌≡◌ {A = ℕ} 0 1 = cc in absurd (omega arith)
     go false e h = omega (arith, ltb-false _ _ e)
 
--- A byte and the one before it are both line ends.
-abbrev pub are_ends : ℕ × ℕ → Bool
-are_ends p = eqb p.0 10 && eqb p.1 10
+-- Two neighbours are both line ends.
+abbrev pub are_ends : List ℕ → Bool
+are_ends p = eqb (length p) 2 && (eqb (get_or p 0 0) 10 && eqb (get_or p 1 0) 10)
+
+-- The neighbours in bytes before which byte c stands, and in all bytes of an input.
+abbrev pub pairs_from : ℕ → List ℕ → List (List ℕ)
+pairs_from c [] = []
+pairs_from c (b ∷ bs) = (c ∷ b ∷ []) ∷ pairs_from b bs
+
+abbrev pub pairs : List ℕ → List (List ℕ)
+pairs [] = []
+pairs (b ∷ bs) = pairs_from b bs
+
+windows_give : (bs : List ℕ) (s : Windows ℕ) → windows_rest s ≡ bs → windows_size s ≡ 2 → AlwaysYields windows_steps (λ w. w.now) s (pairs bs)
+windows_give [] s e z = λ x j p. absurd (omega (arith, ap length e, p.1.0))
+windows_give (b ∷ []) s e z = λ x j p. absurd (omega (arith, ap length e, p.1.0))
+windows_give (b ∷ c ∷ cs) s e z = (
+  (λ j p. absurd (omega (arith, ap length e, p.1.0))),
+  λ x j p. (p.1.1 ∙ ap (λ (q : ℕ × List ℕ). take q.0 q.1) (λ i. (z i, e i)), windows_give (c ∷ cs) j (p.1.2 ∙ ap (drop 1) e) (p.0 ∙ z)),
+)
+
+pub pairs_of_windows : (bs : List ℕ) (s : Windows ℕ) → windows_rest s ≡ bs → windows_size s ≡ 2 → YieldsList windows_steps (λ w. w.now) s (pairs bs)
+pairs_of_windows bs s e z = record { runs = windows_give bs s e z }
 
 -- The place of the first empty line, where byte c stands before the bytes.
 empty_at : ℕ → List ℕ → ℕ
-empty_at c bs = position_or_len are_ends (zip (c ∷ bs) bs)
+empty_at c bs = position_or_len are_ends (pairs_from c bs)
 
-pairs_length : (c : ℕ) (bs : List ℕ) → length (zip (c ∷ bs) bs) ≡ length bs
+pairs_length : (c : ℕ) (bs : List ℕ) → length (pairs_from c bs) ≡ length bs
 pairs_length c [] = refl
 pairs_length c (b ∷ bs) = ap suc (pairs_length b bs)
 
@@ -53,21 +77,38 @@ behind_is c (b ∷ bs) = go (eqb c 10 && eqb b 10) (behind_is b bs)
         let s : 1 + empty_at b bs + 1 ≡ suc (empty_at b bs + 1) = omega arith in
         ap (λ n. drop n (b ∷ bs)) s ∙ h
 
-pub split_here : (bs : List ℕ) (at : ℕ) → position are_ends (zip (10 ∷ bs) bs) ≡ Some at → (take at bs ≡ sheet_part bs) × (drop (at + 1) bs ≡ ticks_part bs)
+pub no_first : (bs : List ℕ) → length bs < 1 → eqb (get_or bs 0 0) 10 ≡ false
+no_first [] l = refl
+no_first (b ∷ bs) l = absurd (omega arith)
+
+-- The first byte is no line end, so it belongs to the sheet.
+sheet_from : (c : ℕ) (cs z : List ℕ) (t : Bool) → t ≡ false → z ≡ before_empty t cs → c ∷ z ≡ cond t [] (c ∷ before_empty t cs)
+sheet_from c cs z true f h = absurd cc
+sheet_from c cs z false f h = ap (λ y. c ∷ y) h
+
+ticks_from : (cs z : List ℕ) (t : Bool) → t ≡ false → z ≡ behind_empty t cs → z ≡ cond t cs (behind_empty t cs)
+ticks_from cs z true f h = absurd cc
+ticks_from cs z false f h = h
+
+pub split_here : (bs : List ℕ) (at : ℕ) → eqb (get_or bs 0 0) 10 ≡ false → position are_ends (pairs bs) ≡ Some at → (take (at + 1) bs ≡ sheet_part bs) × (drop (at + 2) bs ≡ ticks_part bs)
 unfolding empty_at
-split_here bs at e =
-    let p = place_some are_ends (zip (10 ∷ bs) bs) at e in (
-      ap (λ n. take n bs) (sym p.0) ∙ before_is 10 bs,
-      ap (λ n. drop (n + 1) bs) (sym p.0) ∙ behind_is 10 bs,
+split_here [] at f e = absurd (omega (arith, (place_some are_ends [] at e).1))
+split_here (c ∷ cs) at f e =
+    let p = place_some are_ends (pairs_from c cs) at e in
+    let one : at + 1 ≡ suc at = omega arith in
+    let two : at + 2 ≡ suc (at + 1) = omega arith in (
+      ap (λ n. take n (c ∷ cs)) one ∙ sheet_from c cs _ (eqb c 10) f (ap (λ n. take n cs) (sym p.0) ∙ before_is c cs),
+      ap (λ n. drop n (c ∷ cs)) two ∙ ticks_from cs _ (eqb c 10) f (ap (λ n. drop (n + 1) cs) (sym p.0) ∙ behind_is c cs),
     )
 
-pub split_none : (bs : List ℕ) → position are_ends (zip (10 ∷ bs) bs) ≡ None → (bs ≡ sheet_part bs) × ([] ≡ ticks_part bs)
+pub split_none : (bs : List ℕ) → eqb (get_or bs 0 0) 10 ≡ false → position are_ends (pairs bs) ≡ None → (bs ≡ sheet_part bs) × ([] ≡ ticks_part bs)
 unfolding empty_at
-split_none bs e =
-    let p = place_none are_ends (zip (10 ∷ bs) bs) e in
-    let n = pairs_length 10 bs in (
-      sym (take_all _ bs (omega arith)) ∙ before_is 10 bs,
-      sym (drop_all _ bs (omega arith)) ∙ behind_is 10 bs,
+split_none [] f e = (refl, refl)
+split_none (c ∷ cs) f e =
+    let p = place_none are_ends (pairs_from c cs) e in
+    let n = pairs_length c cs in (
+      sheet_from c cs _ (eqb c 10) f (sym (take_all _ cs (omega arith)) ∙ before_is c cs),
+      ticks_from cs _ (eqb c 10) f (sym (drop_all _ cs (omega arith)) ∙ behind_is c cs),
     )
 
 -- The first line.

@@ -3,19 +3,19 @@ ghost use Rattle.std.specs.Prelude.{◌≡◌, [], ◌∷◌, IfNone, IfSome};
 ghost use Rattle.sheet.specs.Texts.{lines};
 ghost use Rattle.listing.specs.Inputs.{sheet_part, ticks_part};
 
-use std::iter::once;
-
 /// What stands before the first empty line, the sheet, and what stands behind it, the tick lines.
 pub(crate) fn split_input(input: &[u8]) -> (&[u8], &[u8])
     ensures sheet { result.0.now ≡ sheet_part input.now }
     ensures ticks { result.1.now ≡ ticks_part input.now }
 {
-    let before = once(b'\n').chain(input.iter().copied());
-    let empty = before
-        .zip(input)
-        .position(|(before, b)| before == b'\n' && *b == b'\n');
-    match empty {
-        Some(at) => (&input[..at], &input[at + 1..]),
+    if let [b'\n', rest @ ..] = input {
+        return (&[], rest);
+    }
+    match input
+        .windows(2)
+        .position(|pair| matches!(pair, [b'\n', b'\n']))
+    {
+        Some(at) => (&input[..=at], &input[at + 2..]),
         None => (input, &[]),
     }
 }

@@ -9,6 +9,7 @@ use roster::SheetFault;
 use std::fmt;
 
 /// The names of the columns; a tick with the verdict after its step; or a hold with the numbers that it answers.
+// `Held` has numbers and no fault: they are all that a line shows, and the definition `held` makes a line of them.
 #[derive(Clone, Copy, PartialEq, Eq, Debug)]
 pub enum Line {
     Columns,
@@ -53,7 +54,7 @@ impl From<TickFault> for Line {
 }
 
 /// A space and a number, where there is one.
-#[derive(Clone, Copy)]
+#[derive(Clone, Copy, PartialEq, Eq, Debug)]
 struct Spaced(Option<usize>);
 
 impl fmt::Display for Spaced {

@@ -34,10 +34,10 @@ fn is_group(group: &[u8], digits: usize) -> bool
 pub(crate) fn do_groups_fit(line: &[u8], signals: &[Signal]) -> bool
     ensures { result ≡ each_fits (map owned signals.now) 1 (groups line.now) }
 {
-    line.split(|b| *b == b' ').enumerate().all(|(at, group)| {
-        let post = at + 1;
-        is_group(group, count_owned(signals, post))
-    })
+    (1..).zip(line.split(|b| *b == b' ')).all(|(post, group)| is_group(
+        group,
+        count_owned(signals, post),
+    ))
 }
 
 /// The whole reading of a line: each digit, from the last on, moves those behind it up by one bit and becomes bit 0.

@@ -1,11 +1,21 @@
-//! Formulas from text in which operands stand before their sign, as `pqU` for `p U q`: for programs that show and try others.
+//! Formulas and monitors from text in which operands stand before their sign, as `pqU` for `p U q`: for programs that show and
+//! try others.
 #![tactic(auto)]
 
-ghost use Rattle.std.specs.Prelude.{◌<◌, length, IfOk, IfSome};
+ghost use Rattle.std.specs.Prelude.{◌≡◌, ◌<◌, length, None, IfOk, IfSome};
 ghost use Rattle.parts.specs.Tables.{parts_of};
+ghost use Rattle.rule.specs.Rules.{misfit};
+ghost use Rattle.monitor.specs.Monitoring.{fresh};
+ghost use Rattle.monitor.specs.Monitors.{state_of};
 
+mod unfit;
+
+use compact::Workspace;
+use monitor::Monitor;
 use parts::{Binary, Junction, Table, Unary};
+use rule::Rule;
 use std::alloc::{AllocError, Global};
+pub use unfit::Unfit;
 
 /// A sign over the last part that the stack has.
 fn unary(table: &mut Table, stack: &mut Vec<u16>, sign: Unary) -> Option<u16> {
@@ -58,4 +68,17 @@ pub fn make(heap: Global, table: &mut Table, text: &str) -> Result<Option<u16>, 
         stack.push(made)?;
     }
     Ok(stack.pop().filter(|at| usize::from(*at) < table.used()))
+}
+
+/// A monitor of the formula over so many signals, before tick 0, if that is a rule.
+pub fn monitor_of(heap: Global, text: &str, signals: u8) -> Result<Monitor, Unfit>
+    ensures fresh { IfOk result (λ m. state_of m ≡ fresh signals (state_of m).rule) }
+    ensures fit { IfOk result (λ m. misfit signals (state_of m).rule ≡ None) }
+{
+    let mut table = Table::new(heap)?;
+    let mut space = Workspace::new(heap)?;
+    let mut rule = Rule::new(heap)?;
+    let top = make(heap, &mut table, text)?.ok_or(Unfit::NoFormula)?;
+    rule.become_part(&table, top, signals, &mut space)?;
+    Ok(Monitor::new(heap, &rule)?)
 }

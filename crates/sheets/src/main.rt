@@ -22,7 +22,7 @@ fn decoded(heap: Global, line: &str) -> Result<Vec<u8>, AllocError> {
 }
 
 /// Prints a hold: its number, and its line and word where it has them.
-fn print_fault(rt: &HostRuntime, fault: SheetFault) -> anyhow::Result<()> {
+fn print_fault(rt: &impl Print, fault: SheetFault) -> anyhow::Result<()> {
     let number = fault.number();
     print!(rt; "hold {number}")?;
     if let Some(line) = fault.line() {

@@ -4,30 +4,39 @@ use roster::{Post, Signal};
 use rule::Rule;
 use sheet::Sheet;
 
-/// Prints the posts' names.
-fn print_posts(rt: &HostRuntime, posts: &[Post]) -> anyhow::Result<()> {
-    for (i, post) in posts.iter().enumerate() {
+/// Prints items, each as `print` does, with a space before the first and a comma before each other.
+fn print_items<T, F: Fn(&T) -> anyhow::Result<()>>(
+    rt: &impl Print,
+    items: &[T],
+    print: F,
+) -> anyhow::Result<()>
+    requires { F.IsAlwaysCallable print }
+{
+    for (i, item) in items.iter().enumerate() {
         let before = if i == 0 { " " } else { "," };
-        let name = post.name.as_bytes().escape_ascii();
-        print!(rt; "{before}{name}")?;
+        print!(rt; "{before}")?;
+        print(item)?;
     }
     Ok(())
 }
 
-/// Prints the signals' names, each with the number of its owner.
-// A loop of its own: one for posts and signals would ask at each name which of the two it prints.
-fn print_signals(rt: &HostRuntime, signals: &[Signal]) -> anyhow::Result<()> {
-    for (i, signal) in signals.iter().enumerate() {
-        let before = if i == 0 { " " } else { "," };
-        let name = signal.name.as_bytes().escape_ascii();
-        let owner = signal.owner;
-        print!(rt; "{before}{name}:{owner}")?;
-    }
+/// Prints a post's name.
+fn print_post(rt: &impl Print, post: &Post) -> anyhow::Result<()> {
+    let name = post.name.as_bytes().escape_ascii();
+    print!(rt; "{name}")?;
+    Ok(())
+}
+
+/// Prints a signal's name with the number of its owner.
+fn print_signal(rt: &impl Print, signal: &Signal) -> anyhow::Result<()> {
+    let name = signal.name.as_bytes().escape_ascii();
+    let owner = signal.owner;
+    print!(rt; "{name}:{owner}")?;
     Ok(())
 }
 
 /// Prints a part, its operands by their numbers.
-fn print_part(rt: &HostRuntime, part: Part) -> anyhow::Result<()> {
+fn print_part(rt: &impl Print, part: Part) -> anyhow::Result<()> {
     match part {
         Part::Const(value) => print!(rt; " {value}")?,
         Part::Signal(p) => print!(rt; " p{p}")?,
@@ -39,7 +48,7 @@ fn print_part(rt: &HostRuntime, part: Part) -> anyhow::Result<()> {
 }
 
 /// Prints the parts of a rule in the walk's order.
-fn print_rule(rt: &HostRuntime, rule: &Rule) -> anyhow::Result<()> {
+fn print_rule(rt: &impl Print, rule: &Rule) -> anyhow::Result<()> {
     for part in rule.formula().parts() {
         print_part(rt, *part)?;
     }
@@ -47,11 +56,11 @@ fn print_rule(rt: &HostRuntime, rule: &Rule) -> anyhow::Result<()> {
 }
 
 /// Prints a sheet.
-pub(crate) fn print_sheet(rt: &HostRuntime, sheet: &Sheet) -> anyhow::Result<()> {
+pub(crate) fn print_sheet(rt: &impl Print, sheet: &Sheet) -> anyhow::Result<()> {
     print!(rt; "posts")?;
-    print_posts(rt, sheet.posts())?;
+    print_items(rt, sheet.posts(), |post| print_post(rt, post))?;
     print!(rt; " signals")?;
-    print_signals(rt, sheet.signals())?;
+    print_items(rt, sheet.signals(), |signal| print_signal(rt, signal))?;
     print!(rt; " rule")?;
     print_rule(rt, sheet.rule())?;
     println!(rt; "")?;
