@@ -4,7 +4,6 @@
 
 mod show;
 
-use roster::SheetFault;
 use sheet::Blank;
 use show::print_sheet;
 use std::alloc::{AllocError, Global};
@@ -21,20 +20,6 @@ fn decoded(heap: Global, line: &str) -> Result<Vec<u8>, AllocError> {
         .collect(heap)
 }
 
-/// Prints a hold: its number, and its line and word where it has them.
-fn print_fault(rt: &impl Print, fault: SheetFault) -> anyhow::Result<()> {
-    let number = fault.number();
-    print!(rt; "hold {number}")?;
-    if let Some(line) = fault.line() {
-        print!(rt; " {line}")?;
-    }
-    if let Some(word) = fault.word() {
-        print!(rt; " {word}")?;
-    }
-    println!(rt; "")?;
-    Ok(())
-}
-
 /// Reads one sheet.
 fn print_reading(rt: &HostRuntime, line: &str, number: u32) -> anyhow::Result<()> {
     let heap = rt.alloc();
@@ -42,9 +27,10 @@ fn print_reading(rt: &HostRuntime, line: &str, number: u32) -> anyhow::Result<()
     let blank = Blank::new(heap)?;
     print!(rt; "{number} ")?;
     match blank.read(text.as_slice()) {
-        Err(fault) => print_fault(rt, fault),
-        Ok(sheet) => print_sheet(rt, &sheet),
+        Err(fault) => println!(rt; "hold {fault}")?,
+        Ok(sheet) => print_sheet(rt, &sheet)?,
     }
+    Ok(())
 }
 
 fn run(rt: &HostRuntime) -> anyhow::Result<()> {
