@@ -10,6 +10,7 @@ use sample::Sample;
 use show::text_of;
 
 /// The verdict in words.
+// No `Display`: a verdict prints as its letter.
 fn word(verdict: Verdict) -> &'static str {
     match verdict {
         Verdict::True => "true",

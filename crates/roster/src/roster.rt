@@ -28,6 +28,7 @@ pub struct Signal {
     pub owner: u8,
 }
 
+// Two impls: that what stands on a sheet has a name is all that a post and a signal share.
 impl Named for Post {
     ghost label = { λ p. name_bytes p.name };
 

@@ -5,8 +5,8 @@ ghost use Rattle.words.specs.Names.{is_name};
 use crate::naming::{NAME_BYTES, is_name};
 
 /// A name of a post or of a signal: the first `length` bytes.
-// The bytes have a length beside them, as a name is `Copy` and takes no memory of the heap. No `PartialEq` is derived: it
-// would compare the bytes behind the name too.
+// The bytes have a length beside them: a name is `Copy` and takes no memory of the heap.
+// No `PartialEq`: a derived one would compare the bytes behind the name too.
 #[derive(Clone, Copy, Debug)]
 pub struct Name {
     pub(crate) bytes: [u8; NAME_BYTES],
