@@ -31,8 +31,14 @@ become_numbered-requires c = whole_walk _ (formula (parts_of c.args.table.now) c
 pub unwrap-requires : goal.unwrap-requires
 unwrap-requires c =
     became_ok c.args.self.now.formula c.become_numbered.new.self (final (formulas (parts_of c.number.new.self.out))) c.become_numbered.result
-    (omega (arith, ap (λ f. length (parts f)) (last_walked (parts_of c.number.new.self.out) (formula (parts_of c.args.table.now) c.args.at) c.number.ensures), ap length c.number.ensures,
-    formulas_length (parts_of c.number.new.self.out), c.used.ensures, c.if-used-gt-RULE_PARTS.false))
+    (omega (
+      arith,
+      ap (λ f. length (parts f)) (last_walked (parts_of c.number.new.self.out) (formula (parts_of c.args.table.now) c.args.at) c.number.ensures),
+      ap length c.number.ensures,
+      formulas_length (parts_of c.number.new.self.out),
+      c.used.ensures,
+      c.if-used-gt-RULE_PARTS.false,
+    ))
     (search rules)
 
 pub invariant_of-self : goal.invariant_of-self
