@@ -18,7 +18,7 @@ fn print_steps(
     times: u32,
 ) -> anyhow::Result<()> {
     let (accepted, hold) = repeat(monitor, reading, times);
-    // The listing prints 0 where there is no hold.
+    // A number and no `Option`: the program prints 0 where there is no hold.
     let held = hold.map_or(0, |hold| hold.number());
     let next = monitor.next_tick();
     let count = monitor.obligation().count();
@@ -62,8 +62,8 @@ fn print_rule(rt: &HostRuntime, text: &str, signals: u8, words: &[u32]) -> anyho
 
 /// Prints one line: a formula, how many signals, and pairs of a reading and how often it is given.
 fn print_line(rt: &HostRuntime, line: &str) -> anyhow::Result<()> {
-    let (text, behind) = line.split_once(' ').unwrap_or((line, ""));
-    let numbers = numbers_of(rt.alloc(), behind)?;
+    let text = line.split(' ').next().unwrap_or("");
+    let numbers = numbers_of(rt.alloc(), line)?;
     match numbers.as_slice() {
         [signals, words @ ..] => {
             print_rule(rt, text, u8::try_from(*signals).unwrap_or(u8::MAX), words)
