@@ -102,7 +102,7 @@ fn print_gate(rt: &HostRuntime) -> anyhow::Result<()> {
     let heap = rt.alloc();
     let mut table = Table::new(heap)?;
     let mut space = Workspace::new(heap)?;
-    let top = postfix::make(heap, &mut table, "q!p|G")?.ok_or_else(|| anyhow!("no formula"))?;
+    let top = postfix::make(heap, &mut table, "q!p|G")?;
     let mut formula = formula_at(heap, &table, top, &mut space)?;
     let done = formula.step(
         &Row {

@@ -56,18 +56,19 @@ fn one(table: &mut Table, stack: &mut Vec<u16>, sign: u8) -> Option<u16> {
     }
 }
 
-/// The place of a formula in the table; `None` where the text is none, or the table has no room for it.
-pub fn make(heap: Global, table: &mut Table, text: &str) -> Result<Option<u16>, AllocError>
-    ensures { IfOk result (λ made. IfSome made (λ at. at < length (parts_of table.new))) }
+/// The place of a formula in the table, which is held back where the text is none or the table has no room for it.
+pub fn make(heap: Global, table: &mut Table, text: &str) -> Result<u16, Unfit>
+    ensures { IfOk result (λ at. at < length (parts_of table.new)) }
 {
     let mut stack = Vec::new(heap);
     for sign in text.bytes() {
-        let Some(made) = one(table, &mut stack, sign) else {
-            return Ok(None);
-        };
-        stack.push(made)?;
+        let made = one(table, &mut stack, sign).ok_or(Unfit::NoFormula)?;
+        stack.push(made).map_err(AllocError::from)?;
     }
-    Ok(stack.pop().filter(|at| usize::from(*at) < table.used()))
+    stack
+        .pop()
+        .filter(|at| usize::from(*at) < table.used())
+        .ok_or(Unfit::NoFormula)
 }
 
 /// A monitor of the formula over so many signals, before tick 0, if that is a rule.
@@ -78,7 +79,7 @@ pub fn monitor_of(heap: Global, text: &str, signals: u8) -> Result<Monitor, Unfi
     let mut table = Table::new(heap)?;
     let mut space = Workspace::new(heap)?;
     let mut rule = Rule::new(heap)?;
-    let top = make(heap, &mut table, text)?.ok_or(Unfit::NoFormula)?;
+    let top = make(heap, &mut table, text)?;
     rule.become_part(&table, top, signals, &mut space)?;
     Ok(Monitor::new(heap, &rule)?)
 }
