@@ -4,6 +4,7 @@ use Rattle.temporal.specs.Formula.{Formula, never}
 use Rattle.holds.specs.Order.{first_fit}
 use Rattle.holds.specs.Cases.{Hold, plain}
 use Rattle.roster.specs.Entries.{Entries}
+use Rattle.roster.specs.Faults.{spaced}
 use Rattle.sheet.specs.Texts.{Draft, lines, said, sheet_hold}
 use Rattle.monitor.specs.Monitoring.{State, fresh, step_hold, stepped, verdict_of}
 use Rattle.monitor.specs.Verdicts.{verdict_letter}
@@ -47,11 +48,6 @@ listed None ls = Columns ∷ ls
 abbrev pub listing : List ℕ → List Line
 listing input =
     listed (sheet_hold (sheet_part input)) (sheet_rows (said (sheet_part input)) (lines (ticks_part input)))
-
--- A space and a number, where there is one.
-abbrev pub spaced : Option ℕ → List ℕ
-spaced None = []
-spaced (Some n) = codes " " ++ decimal n
 
 -- The bytes of a line, without its line end.
 abbrev pub line_text : Line → List ℕ

@@ -5,7 +5,7 @@ ghost use Rattle.roster.specs.Faults.{answered};
 
 use crate::fault::TickFault;
 use monitor::Verdict;
-use roster::SheetFault;
+use roster::{SheetFault, Spaced};
 use std::fmt;
 
 /// The names of the columns; a tick with the verdict after its step; or a hold with the numbers that it answers.
@@ -49,24 +49,6 @@ impl From<TickFault> for Line {
             number: fault.number(),
             line: None,
             word: None,
-        }
-    }
-}
-
-/// A space and a number, where there is one.
-#[derive(Clone, Copy, PartialEq, Eq, Debug)]
-struct Spaced(Option<usize>);
-
-impl fmt::Display for Spaced {
-    ghost use Rattle.std.specs.Prelude.{Some};
-    ghost use Rattle.listing.specs.Listings.{spaced};
-
-    ghost output = { λ s. Some (spaced s.0) };
-
-    fn fmt<W: fmt::Write>(&self, f: &mut fmt::Formatter<W>) -> fmt::Result {
-        match self.0 {
-            Some(n) => write!(f, " {n}"),
-            None => Ok(()),
         }
     }
 }

@@ -4,6 +4,7 @@ ghost use Rattle.roster.specs.Faults.{answered};
 ghost use Rattle.roster.specs.declared.fault.RuleFault.TheVariants.{Words};
 ghost use Rattle.roster.specs.declared.fault.SheetFault.TheVariants.{Rule};
 
+use crate::spaced::Spaced;
 use std::fmt;
 
 /// Where a word of a rule stands: its line on the sheet and its number on the line, both from 1.
@@ -141,13 +142,9 @@ impl fmt::Display for SheetFault {
     ghost output = { λ fault. Some (fault_text fault) };
 
     fn fmt<W: fmt::Write>(&self, f: &mut fmt::Formatter<W>) -> fmt::Result {
-        write!(f, "{}", self.number())?;
-        if let Some(line) = self.line() {
-            write!(f, " {line}")?;
-        }
-        if let Some(word) = self.word() {
-            write!(f, " {word}")?;
-        }
-        Ok(())
+        let number = self.number();
+        let line = Spaced(self.line());
+        let word = Spaced(self.word());
+        write!(f, "{number}{line}{word}")
     }
 }

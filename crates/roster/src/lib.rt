@@ -4,6 +4,8 @@
 mod fault;
 mod postline;
 mod roster;
+mod spaced;
 
 pub use fault::{Place, RuleFault, SheetFault, WordFault};
 pub use roster::{MOST_POSTS, MOST_SIGNALS, Post, Roster, Signal};
+pub use spaced::Spaced;
