@@ -1,7 +1,7 @@
 -- The laws of a formula in memory of its own.
-use Rattle.std.proofs.Common.{rules, ◌≡◌, ℕ, zero, suc, Ok, Err, Result, ◌+◌, ◌-◌, ◌*◌, ◌<◌, ◌≤◌, Bool, true, false, cond, List, [], ◌∷◌, ◌++◌, length, get_or, Some, None, Option, sym, refl, ap, ◌∙◌, subst, ap₂, arith}
+use Rattle.std.proofs.Common.{rules, ◌≡◌, ℕ, zero, suc, Ok, Err, Result, ◌+◌, ◌-◌, ◌*◌, ◌<◌, ◌≤◌, Bool, true, false, cond, List, [], ◌∷◌, ◌++◌, length, get_or, take, drop, Some, None, vec_items, Option, Vec, sym, refl, ap, ◌∙◌, subst, ap₂, arith}
 use mathlib.Core.Bool.{false≢true}
-use Rattle.std.proofs.lemmas.List.{length_push}
+use Rattle.std.proofs.lemmas.List.{length_push, get_or_read, with_items_is}
 use Rattle.temporal.specs.Formula.{Formula}
 use Rattle.temporal.specs.Formula.Formula.{const}
 use Rattle.temporal.specs.Shorten.{same}
@@ -125,6 +125,13 @@ fresh_walked b ps qs (Some i) e (d, same) =
       single (formulas qs) (const b) i (omega arith) (omega arith) d.stands.formula_is ∙ sym (finish_new (const b) [] (λ z. z)),
       omega arith,
     )
+
+-- What is read of a Vec that was lent as a slice and came back as ws.
+pub read_back : {X Z : Type 0} (v : Vec X Z) (ws us : List X) (k : ℕ) (x d : X) → length ws ≡ length us → us ≡ vec_items v → k < v.len
+    → x ≡ get_or (take v.len (ws ++ drop (length ws) v.items)) k x → x ≡ get_or ws k d
+read_back v ws us k x d l e h q =
+    let m : length ws ≡ v.len = l ∙ ap length e ∙ sym v.ok.0 in
+    get_or_read ws k x (omega arith) (q ∙ ap (λ z. get_or z k x) (with_items_is v ws m)) d
 
 -- A rewriting of every part: what became of the last formula.
 pub top_stands : (ps qs : List Part) (to : Formula → Formula) (images : List ℕ) (n top : ℕ) → 0 < length ps → n ≡ length ps

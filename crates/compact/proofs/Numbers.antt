@@ -1,7 +1,7 @@
 -- The laws of numbering.
 use Rattle.std.proofs.Common.{◌≡◌, ℕ, zero, suc, Some, None, Option, ◌<◌, ◌≤◌, true, ◌⊎◌, List, [], ◌∷◌, ◌++◌, length, get_or, replicate, set, sym, refl, ap, ◌∙◌, subst, ap₂, inl, inr, arith, length-set}
 use native.Mathlib.Decide.{ℕ_discrete}
-use Rattle.std.proofs.lemmas.List.{length_push, get_or-set_same, get_or-set_other, get_or_read, get_or-replicate, length-replicate}
+use Rattle.std.proofs.lemmas.List.{length_push, get_or-set_same, get_or-set_other, get_or_append_left, get_or-replicate, length-append, length-replicate}
 use Rattle.temporal.specs.Formula.{Formula}
 use Rattle.temporal.specs.Parts.{In, Distinct, Part as PartOf, Whole, walk}
 use Rattle.parts.specs.Places.{one, two, node, place, formula, formulas, blank, reach, short, Sound, OperandsFirst, Grown, Stands}
@@ -319,28 +319,26 @@ module _ (ps : List Part) (s : Sound ps) (few : length ps ≤ 768) (i : ℕ) (h 
       (ready ns₀ qs₀ (get_or ps i blank) m (grown_on 0 0 768 qs₀ qs₀ qs₀ (omega arith) (grown_none qs₀) (grown_none qs₀)) f.0
       (new_leaf ps s i h (formulas qs₀) qs₀ f.1))
 
--- Where a number was read.
-pub seen_at : (ns : List (Option ℕ)) (i n : ℕ) (o : Option ℕ) → i < length ns → o ≡ get_or ns i o → o ≡ Some n → get_or ns i None ≡ Some n
-seen_at ns i n o h e q = sym (get_or_read ns i o h e None) ∙ q
-
-pub unseen_at : (ns : List (Option ℕ)) (i : ℕ) (o : Option ℕ) → o ≡ get_or ns i o → o ≡ None → get_or ns i None ≡ None
-unseen_at ns i o e q = cc
-
 abbrev nowhere : Option ℕ
 nowhere = None
 
 -- Nothing is written yet.
-pub none_yet : (ps : List Part) (ns : List (Option ℕ)) (qs : List Part) (n : ℕ) → ns ≡ replicate n None → length ps ≤ n → qs ≡ [] → Numbered ps ns qs
+pub none_yet : (ps : List Part) (ns more : List (Option ℕ)) (qs : List Part) (n : ℕ) → length ps ≤ length ns → ns ≡ replicate n None → qs ≡ [] → Numbered ps (ns ++ more) qs
 unfolding formulas
-none_yet ps ns qs n e l q = rw (e, q) record {
-  long = omega (arith, length-replicate n nowhere);
+none_yet ps ns more qs n l e q = rw q record {
+  long = omega (arith, length-append ns more);
   ordered = λ i h. absurd (omega arith);
   distinct = tt;
   whole = λ g x k. absurd k;
   within = λ g k. absurd k;
-  number = λ k m h some. absurd (some_none (sym some ∙ get_or-replicate n k nowhere nowhere (omega arith)));
+  number = λ k m h some. absurd (some_none (sym some ∙ none_at k (omega arith)));
   none = λ k h e j. j;
 }
+  where
+    none_at : (k : ℕ) → k < length ns → get_or (ns ++ more) k None ≡ None
+    none_at k h =
+        get_or_append_left ns more None k h ∙ ap (λ ms. get_or ms k None) e
+        ∙ get_or-replicate n k nowhere nowhere (omega (arith, ap length e, length-replicate n nowhere))
 
 pub nothing : formulas [] ≡ []
 unfolding formulas

@@ -8,5 +8,5 @@ mod workspace;
 
 pub use compact::{Compact, MOST, TooMany};
 pub use earliest::earlier_of;
-pub use numbering::Numbering;
+pub use numbering::{Numbering, number};
 pub use workspace::Workspace;

@@ -1,5 +1,5 @@
 //! The memory of a rewriting.
-ghost use Rattle.std.specs.Prelude.{◌≤◌, vec_capacity};
+ghost use Rattle.std.specs.Prelude.{◌≡◌, ◌≤◌, vec_capacity, vec_len};
 
 use crate::compact::MOST;
 use crate::numbering::Numbering;
@@ -14,12 +14,12 @@ pub struct Workspace {
     pub(crate) images: Vec<u16>,
     pub(crate) ticks: Vec<Option<u32>>,
     pub numbering: Numbering,
-    ghost images_room: { 256 ≤ vec_capacity images },
+    ghost images_long: { vec_len images ≡ 256 },
     ghost ticks_room: { 256 ≤ vec_capacity ticks },
 }
 
 impl Workspace {
-    ghost use Rattle.std.specs.Prelude.{◌≡◌, ◌*◌, ◌<◌, [], length, IfOk};
+    ghost use Rattle.std.specs.Prelude.{◌*◌, ◌<◌, [], length, IfOk};
     ghost use Rattle.temporal.specs.Parts.{parts, final};
     ghost use Rattle.parts.specs.Places.{formulas, Grown};
     ghost use Rattle.parts.specs.Tables.{parts_of};
@@ -28,7 +28,7 @@ impl Workspace {
     pub fn new(heap: Global) -> Result<Workspace, AllocError>
         ensures { IfOk result (λ w. parts_of w.numbering.out ≡ []) }
     {
-        let images = Vec::with_capacity(heap, MOST)?;
+        let images = vec![in heap; 0; MOST]?;
         let ticks = Vec::with_capacity(heap, MOST)?;
         let numbering = Numbering::new(heap)?;
         Ok(Workspace {

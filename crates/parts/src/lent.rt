@@ -37,6 +37,8 @@ impl Lent<'_> {
     }
 
     /// The place of a part, where it has one.
+    // Inlined, as `intern` and `put_leaf`: where the kind of the part is known, the search need not tell kinds apart at each place.
+    #[inline(always)]
     fn place_of(&self, part: Part) -> Option<u16>
         ensures { MatchOption result ((k : ℕ) → k < length (parts_in self.now) → slice_index_or (parts_in self.now) k blank ≢ part) (λ i. (i < length (parts_in self.now)) × (slice_index_or (parts_in self.now) i blank ≡ part)) }
     {
@@ -47,6 +49,7 @@ impl Lent<'_> {
     }
 
     /// The place of a shape's formula, which is taken where it has none; `None` where there is no room for it.
+    #[inline(always)]
     pub(crate) fn intern(&mut self, shape: Shape) -> Option<u16>
         requires { Shapes (parts_in self.old) (meant (parts_in self.old) shape) shape }
         ensures loan { SameLoan self.old self.new }
@@ -163,6 +166,7 @@ impl Lent<'_> {
     }
 
     /// The place of a constant, a signal or an open reading, where there is room for one part more.
+    #[inline(always)]
     pub fn put_leaf(&mut self, part: Part) -> u16
         requires room { length (parts_in self.old) < room }
         requires leaf { reach part ≡ 0 }

@@ -1,6 +1,6 @@
 -- What a step or a closing makes of one part.
-use Rattle.std.proofs.Common.{◌≡◌, ℕ, ◌+◌, ◌<◌, ◌≤◌, List, [], ◌∷◌, ◌++◌, length, get_or, sym, refl, ap, ◌∙◌, subst, ap₂, arith, below_more}
-use Rattle.std.proofs.lemmas.List.{get_or_push, get_or_append_left}
+use Rattle.std.proofs.Common.{◌≡◌, ℕ, ◌+◌, ◌<◌, ◌≢◌, List, length, get_or, set, sym, refl, ap, ◌∙◌, subst, ap₂, arith, below_more}
+use Rattle.std.proofs.lemmas.List.{get_or-set_same, get_or-set_other}
 use Rattle.temporal.specs.Formula.{Formula}
 use Rattle.temporal.specs.Shorten.{negˢ, joinˢ}
 use Rattle.temporal.specs.Progress.{step, close}
@@ -93,13 +93,14 @@ module _ (ρ : ℕ → ℕ → Formula) (ps qs : List Part) (images : List ℕ) 
       ∙ ap₂ (joinˢ (op o)) (done x w.0).formula_is (done y w.1).formula_is ∙ sym (ap (close ρ) f)) d
 
 -- One image more.
-pub imaged_more : (to : Formula → Formula) (ps qs : List Part) (images : List ℕ) (i x : ℕ) → i ≡ length images → i < length ps
-    → Imaged to ps images i → Made 2 ps qs (to (formula ps i)) x → Imaged to qs (images ++ x ∷ []) (i + 1)
-imaged_more to ps qs images i x l h done d =
-    below_more (λ k. Stands qs (to (formula qs k)) (get_or (images ++ x ∷ []) k 0)) i
+pub imaged_more : (to : Formula → Formula) (ps qs : List Part) (images : List ℕ) (i x : ℕ) → i < length images → i < length ps
+    → Imaged to ps images i → Made 2 ps qs (to (formula ps i)) x → Imaged to qs (set images i x) (i + 1)
+imaged_more to ps qs images i x h l done d =
+    below_more (λ k. Stands qs (to (formula qs k)) (get_or (set images i x) k 0)) i
     (λ k less.
-    subst (Stands qs (to (formula qs k))) (sym (get_or_append_left images (x ∷ []) 0 k (omega arith)))
+    let ne : k ≢ i = omega arith in
+    subst (Stands qs (to (formula qs k))) (sym (get_or-set_other images i k x 0 ne))
     (subst (λ f. Stands qs (to f) (get_or images k 0)) (sym (stood 2 ps qs _ x k d (omega arith)))
     (stands_on 2 ps qs (to (formula ps k)) (get_or images k 0) d.grown (done k less))))
-    (subst (Stands qs (to (formula qs i))) (sym (get_or_push images x 0 i (sym l)))
-    (subst (λ f. Stands qs (to f) x) (sym (stood 2 ps qs _ x i d h)) d.stands))
+    (subst (Stands qs (to (formula qs i))) (sym (get_or-set_same images i x 0 h))
+    (subst (λ f. Stands qs (to f) x) (sym (stood 2 ps qs _ x i d l)) d.stands))

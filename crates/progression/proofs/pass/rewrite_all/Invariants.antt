@@ -1,4 +1,4 @@
-use Rattle.std.proofs.Common.{◌≡◌, ◌*◌, vec_capacity, vec_items, vec_len}
+use Rattle.std.proofs.Common.{◌*◌}
 use Rattle.parts.specs.Places.{Grown}
 use Rattle.parts.specs.Tables.{SameLoan, parts_in}
 use Rattle.progression.specs.Passes.{Imaged}
@@ -8,7 +8,5 @@ abbrev pub invariant-loop-at : goal.invariant-loop-at
 invariant-loop-at g l = record {
   loan : SameLoan l.fn.lent l.lent;
   grown : Grown (2 * l.at) (parts_in l.fn.lent) (parts_in l.lent);
-  imaged : Imaged (g.R.Rewrite.to l.by) (parts_in l.lent) (vec_items l.images) l.at;
-  count : vec_len l.images ≡ l.at;
-  capacity : vec_capacity l.images ≡ vec_capacity l.fn.images;
+  imaged : Imaged (g.R.Rewrite.to l.by) (parts_in l.lent) l.images l.at;
 }

@@ -1,4 +1,4 @@
-use Rattle.compact.proofs.numbering.Numbering.+walk.Given as goal
+use Rattle.compact.proofs.numbering.+walk.Given as goal
 
 abbrev pub decreases-walk : goal.decreases-walk
 decreases-walk l = l.at
