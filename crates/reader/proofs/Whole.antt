@@ -1,4 +1,4 @@
--- A whole rule, for a reader that has read the words before k.
+-- A whole rule, of which the words before k were read.
 use Rattle.std.proofs.Common.{◌≡◌, ℕ, ◌+◌, ◌*◌, ◌<◌, ◌≤◌, List, [], length, get_or, take, vec_items, IsErrAnd, Some, None, Ok, Err, Option, Result, sym, ap, ◌∙◌, arith}
 use Rattle.std.specs.Option.{ok_or}
 use Rattle.std.proofs.lemmas.List.{take_all}
@@ -11,15 +11,15 @@ use Rattle.grammar.specs.Machine.{short, want, step, run, ending}
 use Rattle.grammar.proofs.Scanned.{run_more, misplaced_word, misplaced_end}
 use Rattle.grammar.proofs.Shortened.{short_reads}
 use Rattle.reader.specs.declared.misplaced.Misplaced.{Misplaced}
-use Rattle.reader.specs.declared.reader.Reader.{Reader}
+use Rattle.reader.specs.declared.progress.Progress.{Progress}
 use Rattle.reader.specs.Answers.{Answers, RuleRead}
 use Rattle.reader.specs.Steps.{Ends, Takes, load_of, state}
 use Rattle.reader.proofs.Exits.{exit}
 use Rattle.reader.proofs.Waits.{not_stuck}
 
-module _ (ws : List Word) (k : ℕ) (old : Reader) (here : state old ≡ run short (want []) (take k ws)) where
+module _ (ws : List Word) (k : ℕ) (old : Progress) (here : state old ≡ run short (want []) (take k ws)) where
   -- One more word, under a `?`: it can stand there,
-  pub goes_on : {A E : Type 0} (d : Word) (new : Reader) (r : Option A) (e : E) (x : A) → k < length ws → load_of old ≤ 2 * k → Takes (get_or ws k d) old new r → ok_or r e ≡ Ok x
+  pub goes_on : {A E : Type 0} (d : Word) (new : Progress) (r : Option A) (e : E) (x : A) → k < length ws → load_of old ≤ 2 * k → Takes (get_or ws k d) old new r → ok_or r e ≡ Ok x
       → (load_of new ≤ 2 * (k + 1)) × (state new ≡ run short (want []) (take (k + 1) ws))
   goes_on d new None e x l b t q = absurd (cc)
   goes_on d new (Some y) e x l b t q =
@@ -27,12 +27,12 @@ module _ (ws : List Word) (k : ℕ) (old : Reader) (here : state old ≡ run sho
       (omega arith, t.1 ∙ ap (λ z. step short z (get_or ws k d)) here ∙ sym (run_more short (want []) ws k d l))
 
   -- or it is the first at fault.
-  pub stops : {A : Type 0} (d : Word) (new : Reader) (r : Option A) (m : Misplaced) (qs : List Part) (q : Result ℕ Misplaced) → k < length ws → Takes (get_or ws k d) old new r
+  pub stops : {A : Type 0} (d : Word) (new : Progress) (r : Option A) (m : Misplaced) (qs : List Part) (q : Result ℕ Misplaced) → k < length ws → Takes (get_or ws k d) old new r
       → ok_or r (record { word = k }) ≡ Err m → IsErrAnd q (λ e. e ≡ m) → Answers ws qs q
   stops d new (Some y) m qs q l t e h = absurd (cc)
   stops d new None m qs q l t e h =
       let word : k ≡ m.word = cc in
-      exit (Answers ws qs) q m h (misplaced_word short ws k (state old) here (not_stuck old.held (parts_of old.table) (vec_items old.frames)) d l t ∙ ap Some word)
+      exit (Answers ws qs) q m h (misplaced_word short ws k (state old) here (not_stuck old.held (parts_of old.table.now) (vec_items old.frames.now)) d l t ∙ ap Some word)
 
   -- The end: the words are a rule,
   reads_all : (qs : List Part) (top : ℕ) → length ws ≤ k → Ends old qs (Some top) → RuleRead ws qs top
@@ -43,7 +43,7 @@ module _ (ws : List Word) (k : ℕ) (old : Reader) (here : state old ≡ run sho
 
   -- or the end is at fault.
   ends_short : (qs : List Part) → length ws ≡ k → Ends old qs None → misplaced ws ≡ Some k
-  ends_short qs l e = misplaced_end short ws k (state old) here (not_stuck old.held (parts_of old.table) (vec_items old.frames)) (sym l) e
+  ends_short qs l e = misplaced_end short ws k (state old) here (not_stuck old.held (parts_of old.table.now) (vec_items old.frames.now)) (sym l) e
 
   pub answers : (qs : List Part) (r : Option ℕ) → k ≡ length ws → Ends old qs r → Answers ws qs (ok_or r (record { word = length ws }))
   answers qs (Some top) l e = reads_all qs top (omega arith) e

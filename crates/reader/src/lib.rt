@@ -5,6 +5,7 @@ mod building;
 mod frame;
 mod known;
 mod misplaced;
+mod progress;
 mod reader;
 
 pub use known::unknown;
