@@ -7,7 +7,7 @@ mod shared;
 use anyhow::anyhow;
 use flight::repeat;
 use monitor::Monitor;
-use postfix::{Unfit, monitor_of};
+use postfix::monitor_of;
 use std::alloc::{AllocError, Global};
 
 /// Prints what became of one reading, given so many times.
@@ -47,8 +47,7 @@ fn numbers_of(heap: Global, text: &str) -> Result<Vec<u32>, AllocError> {
 
 /// Prints what a formula comes to over so many signals, and the steps of its monitor.
 fn print_rule(rt: &HostRuntime, text: &str, signals: u8, words: &[u32]) -> anyhow::Result<()> {
-    match monitor_of(rt.alloc(), text, signals) {
-        Err(Unfit::NoMemory(error)) => return Err(error.into()),
+    match monitor_of(rt.alloc(), text, signals)? {
         Err(why) => println!(rt; "{text} over {signals}: {why}")?,
         Ok(mut monitor) => {
             let count = monitor.obligation().count();

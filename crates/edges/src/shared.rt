@@ -102,8 +102,11 @@ fn print_gate(rt: &HostRuntime) -> anyhow::Result<()> {
     let heap = rt.alloc();
     let mut table = Table::new(heap)?;
     let mut space = Workspace::new(heap)?;
-    let top = postfix::make(heap, &mut table, "q!p|G")?;
-    let mut formula = formula_at(heap, &table, top, &mut space)?;
+    // Where it cannot be made it stays `false`.
+    let mut formula = match postfix::make(heap, &mut table, "q!p|G") {
+        Ok(Some(top)) => formula_at(heap, &table, top, &mut space)?,
+        _ => Compact::new(heap)?,
+    };
     let done = formula.step(
         &Row {
             tick: 1,

@@ -58,7 +58,7 @@ fn print_step(
 
 /// Prints one example from its start.
 fn print_run(rt: &HostRuntime, sample: Sample, readings: &[u32]) -> anyhow::Result<()> {
-    let mut monitor = monitor_of(rt.alloc(), sample.postfix, sample.signals)?;
+    let mut monitor = monitor_of(rt.alloc(), sample.postfix, sample.signals)??;
     let rule = sample.text;
     let start = text_of(rt.alloc(), monitor.obligation())?;
     println!(rt; "rule {rule} is read as {start}")?;

@@ -56,30 +56,38 @@ fn one(table: &mut Table, stack: &mut Vec<u16>, sign: u8) -> Option<u16> {
     }
 }
 
-/// The place of a formula in the table, which is held back where the text is none or the table has no room for it.
-pub fn make(heap: Global, table: &mut Table, text: &str) -> Result<u16, Unfit>
-    ensures { IfOk result (λ at. at < length (parts_of table.new)) }
+/// The place of a formula in the table; none where the text is no formula, or not one that the table has room for.
+pub fn make(heap: Global, table: &mut Table, text: &str) -> Result<Option<u16>, AllocError>
+    ensures { IfOk result (λ made. IfSome made (λ at. at < length (parts_of table.new))) }
 {
     let mut stack = Vec::new(heap);
     for sign in text.bytes() {
-        let made = one(table, &mut stack, sign).ok_or(Unfit::NoFormula)?;
-        stack.push(made).map_err(AllocError::from)?;
+        let Some(made) = one(table, &mut stack, sign) else {
+            return Ok(None);
+        };
+        stack.push(made)?;
     }
-    stack
-        .pop()
-        .filter(|at| usize::from(*at) < table.used())
-        .ok_or(Unfit::NoFormula)
+    Ok(stack.pop().filter(|at| usize::from(*at) < table.used()))
 }
 
-/// A monitor of the formula over so many signals, before tick 0, if that is a rule.
-pub fn monitor_of(heap: Global, text: &str, signals: u8) -> Result<Monitor, Unfit>
-    ensures fresh { IfOk result (λ m. state_of m ≡ fresh signals (state_of m).rule) }
-    ensures fit { IfOk result (λ m. misfit signals (state_of m).rule ≡ None) }
+/// A monitor of the formula over so many signals, before tick 0, if that is a rule. A text that is too long for the memory that
+/// is left gives no formula.
+pub fn monitor_of(
+    heap: Global,
+    text: &str,
+    signals: u8,
+) -> Result<Result<Monitor, Unfit>, AllocError>
+    ensures fresh { IfOk result (λ made. IfOk made (λ m. state_of m ≡ fresh signals (state_of m).rule)) }
+    ensures fit { IfOk result (λ made. IfOk made (λ m. misfit signals (state_of m).rule ≡ None)) }
 {
     let mut table = Table::new(heap)?;
     let mut space = Workspace::new(heap)?;
     let mut rule = Rule::new(heap)?;
-    let top = make(heap, &mut table, text)?;
-    rule.become_part(&table, top, signals, &mut space)?;
-    Ok(Monitor::new(heap, &rule)?)
+    let Ok(Some(top)) = make(heap, &mut table, text) else {
+        return Ok(Err(Unfit::NoFormula));
+    };
+    if let Err(misfit) = rule.become_part(&table, top, signals, &mut space) {
+        return Ok(Err(misfit.into()));
+    }
+    Ok(Ok(Monitor::new(heap, &rule)?))
 }
