@@ -10,7 +10,8 @@ use roster::Signal;
 pub(crate) fn count_groups(line: &[u8]) -> usize
     ensures { result ≡ length (groups line.now) }
 {
-    line.split(|b| *b == b' ').count()
+    // No `split`: it would stop at each space, also of a line that has far too many.
+    line.iter().filter(|b| **b == b' ').count() + 1
 }
 
 /// How many signals a post owns.

@@ -1,10 +1,9 @@
-use Rattle.std.proofs.Common.{rules, eqb}
-use Rattle.std.proofs.lemmas.Iterator.Consumers.{count_from_yields_List}
-use Rattle.std.proofs.lemmas.Iterator.Splits.{YieldsList-from_slice_split}
-use borrow.Author.Tests.{tests}
+use Rattle.std.proofs.Common.{rules, ◌≡◌, ◌+◌, eqb, ap, sym, ◌∙◌}
+use Rattle.std.specs.List.{count_by}
+use Rattle.std.proofs.lemmas.List.Splits.{length-slice_split}
 use Rattle.listing.proofs.tick.count_groups.Goals as goal
 
 pub returns : goal.returns
 returns c =
-    count_from_yields_List c.split.result c.count.result c.count.ensures.ran
-    (YieldsList-from_slice_split _ (λ b. eqb b 32) c.args.line.now c.split.ensures.rest c.split.ensures.done c.split.ensures.closure (λ x b q k. search (rules, tests)))
+    let spaces : c.count.result ≡ count_by (λ b. eqb b 32) c.args.line.now = search rules in
+    ap (λ n. n + 1) spaces ∙ sym (length-slice_split (λ b. eqb b 32) c.args.line.now)
