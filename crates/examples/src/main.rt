@@ -5,7 +5,7 @@ mod sample;
 mod show;
 
 use monitor::{Monitor, Verdict};
-use postfix::monitor_of;
+use postfix::{Unfit, monitor_of};
 use sample::Sample;
 use show::text_of;
 
@@ -58,7 +58,10 @@ fn print_step(
 
 /// Prints one example from its start.
 fn print_run(rt: &HostRuntime, sample: Sample, readings: &[u32]) -> anyhow::Result<()> {
-    let mut monitor = monitor_of(rt.alloc(), sample.postfix, sample.signals)??;
+    let mut monitor = match monitor_of(rt.alloc(), sample.postfix, sample.signals)? {
+        Err(Unfit::TooLong(error)) => return Err(error.into()),
+        made => made?,
+    };
     let rule = sample.text;
     let start = text_of(rt.alloc(), monitor.obligation())?;
     println!(rt; "rule {rule} is read as {start}")?;

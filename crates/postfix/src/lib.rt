@@ -70,8 +70,7 @@ pub fn make(heap: Global, table: &mut Table, text: &str) -> Result<Option<u16>, 
     Ok(stack.pop().filter(|at| usize::from(*at) < table.used()))
 }
 
-/// A monitor of the formula over so many signals, before tick 0, if that is a rule. A text that is too long for the memory that
-/// is left gives no formula.
+/// A monitor of the formula over so many signals, before tick 0, if that is a rule.
 pub fn monitor_of(
     heap: Global,
     text: &str,
@@ -83,8 +82,10 @@ pub fn monitor_of(
     let mut table = Table::new(heap)?;
     let mut space = Workspace::new(heap)?;
     let mut rule = Rule::new(heap)?;
-    let Ok(Some(top)) = make(heap, &mut table, text) else {
-        return Ok(Err(Unfit::NoFormula));
+    let top = match make(heap, &mut table, text) {
+        Ok(Some(top)) => top,
+        Ok(None) => return Ok(Err(Unfit::NoFormula)),
+        Err(error) => return Ok(Err(Unfit::TooLong(error))),
     };
     if let Err(misfit) = rule.become_part(&table, top, signals, &mut space) {
         return Ok(Err(misfit.into()));
