@@ -1,5 +1,5 @@
 //! The earliest open tick.
-ghost use Rattle.std.specs.Prelude.{◌≡◌, ◌≤◌, length, vec_capacity, vec_len};
+ghost use Rattle.std.specs.Prelude.{◌≡◌, ◌≤◌, length, take};
 ghost use Rattle.temporal.specs.Earliest.{earlier};
 ghost use Rattle.parts.specs.Places.{Sound, reach};
 ghost use Rattle.compact.specs.Ticks.{Ticked, tick_in};
@@ -29,17 +29,13 @@ fn tick_of(part: Part, ticks: &[Option<u32>]) -> Option<u32>
     }
 }
 
-/// The earliest open ticks of all parts.
-pub(crate) fn earliest_ticks(parts: &[Part], ticks: &mut Vec<Option<u32>>)
+/// The earliest open ticks of all parts, written at their places.
+pub(crate) fn earliest_ticks(parts: &[Part], ticks: &mut [Option<u32>])
     requires sound { Sound parts.now }
-    requires room { length parts.now ≤ vec_capacity ticks.old }
-    ensures ticked { Ticked parts.now ticks.new.items }
-    ensures count { vec_len ticks.new ≡ length parts.now }
-    ensures capacity { vec_capacity ticks.new ≡ vec_capacity ticks.old }
+    requires room { length parts.now ≤ length ticks.old }
+    ensures { Ticked parts.now (take (length parts.now) ticks.new) }
 {
-    ticks.clear();
-    for part in parts {
-        let tick = tick_of(*part, ticks);
-        ticks.push_reserved(tick);
+    for (at, part) in parts.iter().enumerate() {
+        ticks[at] = tick_of(*part, &ticks[..at]);
     }
 }

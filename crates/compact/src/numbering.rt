@@ -65,7 +65,7 @@ pub fn number(table: &Table, at: u16, numbers: &mut [Option<u16>], out: &mut Tab
 /// The parts of a formula in the walk's order, and for each place of the table that they come from its number, once it has one.
 #[derive(Drop)]
 pub struct Numbering {
-    pub(crate) numbers: Vec<Option<u16>>,
+    pub numbers: Vec<Option<u16>>,
     pub out: Table,
     ghost long: { vec_len numbers ≡ room },
 }

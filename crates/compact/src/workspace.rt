@@ -1,5 +1,5 @@
 //! The memory of a rewriting.
-ghost use Rattle.std.specs.Prelude.{◌≡◌, ◌≤◌, vec_capacity, vec_len};
+ghost use Rattle.std.specs.Prelude.{◌≡◌, vec_len};
 
 use crate::compact::MOST;
 use crate::numbering::Numbering;
@@ -11,25 +11,26 @@ use std::alloc::{AllocError, Global};
 /// parts in the walk's order.
 #[derive(Drop)]
 pub struct Workspace {
-    pub(crate) images: Vec<u16>,
-    pub(crate) ticks: Vec<Option<u32>>,
+    pub images: Vec<u16>,
+    pub ticks: Vec<Option<u32>>,
     pub numbering: Numbering,
     ghost images_long: { vec_len images ≡ 256 },
-    ghost ticks_room: { 256 ≤ vec_capacity ticks },
+    ghost ticks_long: { vec_len ticks ≡ 256 },
 }
 
 impl Workspace {
-    ghost use Rattle.std.specs.Prelude.{◌*◌, ◌<◌, [], length, IfOk};
+    ghost use Rattle.std.specs.Prelude.{◌*◌, ◌<◌, ◌≤◌, [], length, IfOk};
     ghost use Rattle.temporal.specs.Parts.{parts, final};
     ghost use Rattle.parts.specs.Places.{formulas, Grown};
     ghost use Rattle.parts.specs.Tables.{parts_of};
 
     /// All the memory is taken here, for formulas of 256 parts and what one step makes of them.
     pub fn new(heap: Global) -> Result<Workspace, AllocError>
-        ensures { IfOk result (λ w. parts_of w.numbering.out ≡ []) }
+        ensures empty { IfOk result (λ w. parts_of w.numbering.out ≡ []) }
+        ensures lengths { IfOk result (λ w. (vec_len w.images ≡ 256) × (vec_len w.ticks ≡ 256) × (vec_len w.numbering.numbers ≡ 768) × (vec_len w.numbering.out.places ≡ 769)) }
     {
         let images = vec![in heap; 0; MOST]?;
-        let ticks = Vec::with_capacity(heap, MOST)?;
+        let ticks = vec![in heap; None; MOST]?;
         let numbering = Numbering::new(heap)?;
         Ok(Workspace {
             images,
