@@ -29,7 +29,8 @@ fn tick_of(part: Part, ticks: &[Option<u32>]) -> Option<u32>
     }
 }
 
-/// The earliest open ticks of all parts, written at their places.
+/// The earliest open ticks of all parts.
+// By their places, as the images of a pass: any memory will do that is long enough.
 pub(crate) fn earliest_ticks(parts: &[Part], ticks: &mut [Option<u32>])
     requires sound { Sound parts.now }
     requires room { length parts.now ≤ length ticks.old }

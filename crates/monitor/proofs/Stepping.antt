@@ -1,9 +1,8 @@
 -- A step of the global monitor.
-use Rattle.std.proofs.Common.{◌≡◌, ℕ, ◌+◌, ◌^◌, ◌<◌, ◌≤◌, Bool, true, false, leb, List, ◌++◌, length, get_or, take, drop, Some, None, vec_items, Option, Vec, sym, refl, ap, ◌∙◌, arith, le-ltb, lt-ltb}
+use Rattle.std.proofs.Common.{◌≡◌, ℕ, ◌+◌, ◌^◌, ◌<◌, ◌≤◌, Bool, true, false, leb, List, length, get_or, Some, None, Option, sym, refl, ap, arith, le-ltb, lt-ltb}
 use mathlib.Core.Bool.{false≢true}
-use Rattle.std.proofs.lemmas.List.{with_items_is}
 use Rattle.temporal.specs.Formula.{Formula}
-use Rattle.temporal.specs.Formula.Formula.{const, signal, reading}
+use Rattle.temporal.specs.Formula.Formula.{signal, reading}
 use Rattle.temporal.specs.Progress.{step, reads}
 use Rattle.temporal.specs.Parts.{parts}
 use Rattle.temporal.proofs.Names.{Bare, bare_signal, step_bare, step_agree}

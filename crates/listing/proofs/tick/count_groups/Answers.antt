@@ -1,4 +1,4 @@
-use Rattle.std.proofs.Common.{rules, ◌≡◌, ◌+◌, eqb, ap, sym, ◌∙◌}
+use Rattle.std.proofs.Common.{rules, ◌≡◌, eqb, arith}
 use Rattle.std.specs.List.{count_by}
 use Rattle.std.proofs.lemmas.List.Splits.{length-slice_split}
 use Rattle.listing.proofs.tick.count_groups.Goals as goal
@@ -6,4 +6,4 @@ use Rattle.listing.proofs.tick.count_groups.Goals as goal
 pub returns : goal.returns
 returns c =
     let spaces : c.count.result ≡ count_by (λ b. eqb b 32) c.args.line.now = search rules in
-    ap (λ n. n + 1) spaces ∙ sym (length-slice_split (λ b. eqb b 32) c.args.line.now)
+    omega (arith, spaces, length-slice_split (λ b. eqb b 32) c.args.line.now)

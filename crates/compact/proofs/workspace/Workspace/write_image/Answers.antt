@@ -17,4 +17,4 @@ returns-clause-walked g c =
     (top_stands (parts_of t) (parts_in c.rewrite_all.new.lent) (g.R.Rewrite.to c.args.by.now) images t.used c.index-top.result.now
     c.requires.some (search rules) made.grown made.imaged
     (read_back space.images images _ (t.used - 1) c.index-top.result.now 0 c.rewrite_all.auto.images c.deref_mut.ensures.value
-    (omega (arith, c.requires.some, c.requires.few, l, space.images_long)) c.index-top.ensures)).formula_is
+    (omega (arith, c.requires.some, c.requires.few, l, space.images_long)) (search rules))).formula_is

@@ -1,6 +1,5 @@
-use Rattle.std.proofs.Common.{rules, ◌≡◌, ◌^◌, ◌<◌, ◌≤◌, false, leb, length, sym, ap, ◌∙◌, subst, arith}
+use Rattle.std.proofs.Common.{rules, ◌≡◌, ◌^◌, ◌<◌, ◌≤◌, false, leb, length, ap, ◌∙◌, subst, arith}
 use Rattle.std.proofs.lemmas.Result.{err_from_is_err_and}
-use Rattle.temporal.specs.Formula.{Formula}
 use Rattle.temporal.specs.Parts.{parts, final}
 use Rattle.temporal.specs.Progress.{step}
 use Rattle.parts.specs.Places.{formulas}
@@ -10,7 +9,6 @@ use Rattle.compact.proofs.Compacting.{counted}
 use Rattle.rule.specs.Rules.{all_plain}
 use Rattle.monitor.specs.Monitoring.{bit, progressed}
 use Rattle.monitor.specs.Monitors.{state_of}
-use Rattle.monitor.specs.declared.monitor.Monitor.{Monitor}
 use Rattle.monitor.proofs.Stepping.{same_step, plain_kept, hold_parts, hold_none, with_obligation, moved}
 use Rattle.monitor.proofs.monitor.Monitor.step.Goals as goal
 

@@ -24,7 +24,8 @@ stays c hs back e =
 pub loop-frame-preserved-in-Before : goal.loop-frame-preserved-in-Before
 loop-frame-preserved-in-Before c =
     let last = popped (goal.at.loop-frame-preserved-in-Before c).In-Some (Before c.in-Before.sign) c.in-Before.is in
-    let turn = turn_sign c.args.bound _ _ _ _ _ _ (omega arith) _ last (made_by _ _ _ _ _ c.unary.ensures c.unwrap-x.ensures) in
+    let turn = turn_sign c.args.bound (parts_of c.loop-frame.self.table.now) (parts_of c.unary.new.self) _ _ c.loop-frame.x _ (omega arith) _ last
+    (made_by _ _ _ c.unary.result _ (search rules) c.unwrap-x.ensures) in
     let made = turn.small in
     record { memory = search rules; inside = turn.inside; small = omega arith; same = turn.left ∙ c.loop-frame.invariant.same }
 
@@ -40,7 +41,8 @@ pub loop-frame-preserved : goal.loop-frame-preserved
 loop-frame-preserved c =
     let last = popped (goal.at.loop-frame-preserved c).In-Some (Between c.in-Between.by c.in-Between.left) c.in-Between.is in
     let tight : c.args.bound ≤ level c.in-Between.by = omega arith in
-    let turn = turn_join c.args.bound _ _ _ _ _ _ (omega arith) c.in-Between.by c.in-Between.left tight last c.put_connective-x.ensures in
+    let turn = turn_join c.args.bound (parts_of c.loop-frame.self.table.now) (parts_of c.put_connective-x.new.table) _ _ c.loop-frame.x
+    c.put_connective-x.result (omega arith) c.in-Between.by c.in-Between.left tight last (search rules) in
     let made = turn.small in
     record { memory = search rules; inside = turn.inside; small = omega arith; same = turn.left ∙ c.loop-frame.invariant.same }
 
