@@ -1,6 +1,6 @@
 -- The earliest open tick of a part.
-use Rattle.std.proofs.Common.{◌≡◌, ℕ, ◌<◌, ◌≤◌, List, [], ◌∷◌, ◌++◌, length, get_or, None, Option, sym, refl, ap, ◌∙◌, ap₂, arith, below_more}
-use Rattle.std.proofs.lemmas.List.{length_push, get_or_push, get_or_append_left}
+use Rattle.std.proofs.Common.{◌≡◌, ℕ, ◌+◌, ◌<◌, ◌≤◌, List, [], ◌∷◌, ◌++◌, length, get_or, set, take, None, Option, sym, refl, ap, ◌∙◌, ap₂, subst, arith, below_more}
+use Rattle.std.proofs.lemmas.List.{length_push, get_or_push, get_or_append_left, length-take-le, take_more_set}
 use Rattle.temporal.specs.Formula.{Formula}
 use Rattle.parts.specs.Places.{one, two, node, formula, blank, reach, Sound}
 use Rattle.compact.specs.Ticks.{Ticked, tick_in}
@@ -41,3 +41,10 @@ ticked_more ps ts i o s q h t e k lt =
     (get_or_push ts o None (length ts) refl ∙ e ∙ tick_node ps ts (get_or ps i blank) t (omega (arith, s.ordered i h))
     ∙ sym (ap earliest (formula_node ps i s.ordered h)) ∙ ap (λ j. earliest (formula ps j)) q)
     k (omega (arith, length_push ts o))
+
+-- Written at its place.
+pub ticked_set : (ps : List Part) (ts us : List (Option ℕ)) (i : ℕ) → Sound ps → i < length ts → i < length ps → Ticked ps (take i ts)
+    → us ≡ set ts i (tick_in (take i ts) (get_or ps i blank)) → Ticked ps (take (i + 1) us)
+ticked_set ps ts us i s h q t e =
+    subst (Ticked ps) (sym (ap (take (i + 1)) e ∙ take_more_set ts i (tick_in (take i ts) (get_or ps i blank)) h))
+    (ticked_more ps (take i ts) i (tick_in (take i ts) (get_or ps i blank)) s (sym (length-take-le i ts (omega (arith, h)))) q t refl)
