@@ -8,7 +8,7 @@ use progression::{Rewrite, rewrite_all};
 use std::alloc::{AllocError, Global};
 
 /// For each part of a formula the place of what became of it, and its earliest open tick; and what became of the formula, its
-/// parts in the walk's order.
+/// parts in the walk's order. What a call finds in it is of no account; of what it leaves there only the lengths are promised.
 #[derive(Drop)]
 pub struct Workspace {
     pub images: Vec<u16>,
@@ -19,15 +19,15 @@ pub struct Workspace {
 }
 
 impl Workspace {
-    ghost use Rattle.std.specs.Prelude.{◌*◌, ◌<◌, ◌≤◌, [], length, IfOk};
+    ghost use Rattle.std.specs.Prelude.{◌+◌, ◌*◌, ◌<◌, ◌≤◌, [], length, IfOk};
     ghost use Rattle.temporal.specs.Parts.{parts, final};
-    ghost use Rattle.parts.specs.Places.{formulas, Grown};
+    ghost use Rattle.parts.specs.Places.{room, formulas, Grown};
     ghost use Rattle.parts.specs.Tables.{parts_of};
 
     /// All the memory is taken here, for formulas of 256 parts and what one step makes of them.
     pub fn new(heap: Global) -> Result<Workspace, AllocError>
         ensures empty { IfOk result (λ w. parts_of w.numbering.out ≡ []) }
-        ensures lengths { IfOk result (λ w. (vec_len w.images ≡ 256) × (vec_len w.ticks ≡ 256) × (vec_len w.numbering.numbers ≡ 768) × (vec_len w.numbering.out.places ≡ 769)) }
+        ensures lengths { IfOk result (λ w. (vec_len w.images ≡ 256) × (vec_len w.ticks ≡ 256) × (vec_len w.numbering.numbers ≡ room) × (vec_len w.numbering.out.places ≡ room + 1)) }
     {
         let images = vec![in heap; 0; MOST]?;
         let ticks = vec![in heap; None; MOST]?;
