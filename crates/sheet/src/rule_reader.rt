@@ -1,6 +1,7 @@
 //! A rule while it is read.
 ghost use Rattle.std.specs.Prelude.{◌≤◌, List, length};
 ghost use Rattle.parts.specs.Tables.{parts_of};
+ghost use Rattle.reader.specs.Waiting.{load, reach};
 ghost use Rattle.words.specs.Lists.{Holds};
 ghost use Rattle.words.specs.declared.word.Word.{Word};
 ghost use Rattle.sheet.specs.Rulings.{Ruled, Worded};
@@ -12,12 +13,15 @@ use rule::Rule;
 use std::alloc::{AllocError, Global};
 use words::{MOST_WORDS, Word, WordList};
 
-/// The words of a rule, with the memory in which they are read.
+/// The words of a rule, with the memory in which they are read: few parts were made, and every place that waits is one of the
+/// reader's table.
 #[derive(Drop)]
 pub struct RuleReader {
     pub(crate) words: WordList,
     pub(crate) reader: Reader,
     pub(crate) space: Workspace,
+    ghost few: { load (parts_of reader.table) reader.frames.items ≤ 400 },
+    ghost waiting_inside: { reach reader.frames.items ≤ length (parts_of reader.table) },
 }
 
 /// The place of the words' formula in the reader's table.
@@ -28,7 +32,9 @@ fn read_words(
     line: usize,
 ) -> Result<u16, WordFault>
     requires { length words.now ≤ 200 }
-    ensures { Worded words.now signals line (parts_of reader.new.table) result }
+    ensures worded { Worded words.now signals line (parts_of reader.new.table) result }
+    ensures few { load (parts_of reader.new.table) reader.new.frames.items ≤ 400 }
+    ensures waiting_inside { reach reader.new.frames.items ≤ length (parts_of reader.new.table) }
 {
     let top = reader.read(words).map_err(|fault| {
         let word = fault.word + 1;
