@@ -1,5 +1,5 @@
 //! A reader of rules.
-ghost use Rattle.std.specs.Prelude.{◌≡◌, ◌≤◌, [], length, IfOk, vec_capacity, vec_items};
+ghost use Rattle.std.specs.Prelude.{◌≡◌, ◌≤◌, [], length, IfOk, vec_capacity};
 ghost use Rattle.parts.specs.Tables.{parts_of};
 ghost use Rattle.reader.specs.Answers.{Answers};
 ghost use Rattle.reader.specs.Waiting.{load, reach};
@@ -23,7 +23,7 @@ impl Reader {
     /// A reader; all its memory is taken here.
     pub fn new(heap: Global) -> Result<Reader, AllocError>
         ensures empty { IfOk result (λ reader. parts_of reader.table ≡ []) }
-        ensures none_waits { IfOk result (λ reader. vec_items reader.frames ≡ []) }
+        ensures none_waits { IfOk result (λ reader. reader.frames.items ≡ []) }
     {
         let table = Table::new(heap)?;
         let frames = Vec::with_capacity(heap, MOST_WORDS)?;
