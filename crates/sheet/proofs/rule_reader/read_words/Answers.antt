@@ -16,4 +16,5 @@ pub returns-in-Some-clause-worded : goal.returns-in-Some-clause-worded
 returns-in-Some-clause-worded c =
     let read : RuleRead c.args.words.now (parts_of c.read.new.self.table) c.in_ok-top.top = search rules in
     let found : unknown c.args.signals c.args.words.now ≡ Some c.in-Some.at = cc in
-    unknown_fits c.args.signals c.args.line c.args.words.now c.in-Some.at _ _ read found
+    let fits = unknown_fits c.args.signals c.args.line c.args.words.now c.in-Some.at _ _ read found in
+    cc

@@ -1,7 +1,8 @@
-use Rattle.std.proofs.Common.{◌≡◌, length, sym, subst, rules, arith, ◌∙◌}
+use Rattle.std.proofs.Common.{◌≡◌, Err, length, sym, subst, rules, arith, ◌∙◌}
 use Rattle.std.specs.Option.{ok_or}
 use Rattle.parts.specs.Tables.{parts_of}
 use Rattle.reader.specs.Answers.{Answers}
+use Rattle.reader.specs.Steps.{Ends}
 use Rattle.reader.proofs.Whole.{goes_on, stops, answers}
 use Rattle.reader.proofs.progress.Progress.read.Goals as goal
 
@@ -13,7 +14,8 @@ loop-i-preserved c =
 
 pub returns-in_err-ok_or-clause-answers : goal.returns-in_err-ok_or-clause-answers
 returns-in_err-ok_or-clause-answers c =
-    stops c.args.words.now _ c.loop-i.self c.loop-i.invariant.here _ c.take.new.self _ _ _ _ c.loop-i-test.true c.take.ensures.takes (sym c.ok_or.ensures.value ∙ c.in_err-ok_or.was) c.from_residual.ensures.1
+    let fault : ok_or c.take.result (record { word = c.loop-i.i }) ≡ Err c.in_err-ok_or.field-0.0 = search rules in
+    stops c.args.words.now _ c.loop-i.self c.loop-i.invariant.here _ c.take.new.self _ _ _ _ c.loop-i-test.true c.take.ensures.takes fault c.from_residual.ensures.1
 
 pub returns-clause-answers : goal.returns-clause-answers
 returns-clause-answers c =
@@ -21,4 +23,5 @@ returns-clause-answers c =
     let parts = parts_of c.finish.new.self.table.now in
     let end : c.loop-i.i ≡ length words = omega arith in
     let value : c.ok_or-2.result ≡ ok_or c.finish.result (record { word = length words }) = search rules in
-    subst (Answers words parts) (sym value) (answers words _ c.loop-i.self c.loop-i.invariant.here parts _ end c.finish.ensures.ends)
+    let ended : Ends c.loop-i.self parts c.finish.result = search rules in
+    subst (Answers words parts) (sym value) (answers words _ c.loop-i.self c.loop-i.invariant.here parts _ end ended)
